@@ -1,7 +1,8 @@
 -- The lines that are chosen for a program.
-use Rattle.std.proofs.Common.{◌≡◌, ℕ, ◌+◌, ◌^◌, ◌<◌, ◌≤◌, refl, subst, List, [], ◌∷◌, ◌++◌, length, map, Option, Some, None, Bool, true, false}
+use Rattle.std.proofs.Common.{◌≡◌, ℕ, ◌+◌, ◌^◌, ◌<◌, ◌≤◌, refl, subst, arith, List, [], ◌∷◌, ◌++◌, length, map, Option, Some, None, Bool, true, false}
 use Rattle.std.specs.Prelude.{◌==◌, All, option_map, option_and_then, unwrap_or, if◌then◌else◌}
 use Rattle.std.specs.List.{list_all}
+use Rattle.std.proofs.lemmas.List.Elements.{All-nil}
 use Rattle.vax_form.specs.Ranges.{IsInRange}
 use Rattle.alpha_encode.specs.Words.{IsEncodable}
 use Rattle.alpha_encode.specs.declared.instr.AlphaInstr.{AlphaInstr}
@@ -25,7 +26,7 @@ use Rattle.program_codegen.specs.declared.homes.Homes.{Homes}
 use Rattle.program_codegen.specs.declared.lines.Line.{Line}
 use Rattle.program_codegen.specs.declared.points.Site.{Site}
 use Rattle.program_codegen.specs.Blocks.{block_lines, chosen_lines}
-use Rattle.program_codegen.specs.Homes.{commit_words, direct_end, direct_lines, direct_step, end_at, home_of, no_homes}
+use Rattle.program_codegen.specs.Homes.{direct_end, direct_lines, direct_step, end_at, end_words, home_of, no_homes}
 use Rattle.program_codegen.specs.Programs.{AllHaveWords, KeepsTogether, LeavesReady, ReadsReady}
 use Rattle.program_codegen.specs.Promises.{BeginsBy}
 use Rattle.program_codegen.specs.Words.{block_of, departing, plain, program_lines, trap_lines}
@@ -47,9 +48,8 @@ module _ (site : Site) (codes : List AlphaInstr) where
       let x = ended site codes homes c.found.0 c.found.1 lines c.onward in
       let rest = trap_lines site c.found.1 ++ departing site c.found.1 in
       subst (Starts site) x.whole
-      (before site (map plain x.words) (map plain (commit_words homes c.found.0) ++ (trap_lines site c.found.1 ++ departing site c.found.1)) (row site x.words)
-      (before site (map plain (commit_words homes c.found.0)) (trap_lines site c.found.1 ++ departing site c.found.1) (row site (commit_words homes c.found.0))
-      (before site (trap_lines site c.found.1) (departing site c.found.1) (trap site c.found.1) (depart site c.found.1))))
+      (before site (map plain (end_words homes.waiting homes c.found.0 c.found.1 x.words)) (trap_lines site c.found.1 ++ departing site c.found.1) (row site (end_words homes.waiting homes c.found.0 c.found.1 x.words))
+      (before site (trap_lines site c.found.1) (departing site c.found.1) (trap site c.found.1) (depart site c.found.1)))
 
   direct_starts : (program : List Micro) (homes : Homes) (lines : List Line) → direct_lines site codes homes program ≡ Some lines → Starts site lines
   direct_starts [] homes lines e = absurd (cc e)
@@ -93,7 +93,10 @@ module _ (site : Site) (codes : List AlphaInstr) (after_fits : site.after < 2 ^ 
     where
       by : (o : Option (List Line)) → direct_lines site codes no_homes program ≡ o → Shape site false codes (addresses_of site.after program) (program_words site.sources program + 59) (unwrap_or o (program_lines site codes program))
       by None e = program_shape site codes after_fits encodable few only together program at_start refl ended words (λ e. (refl, refl))
-      by (Some lines) e = direct_shape site codes after_fits encodable few only program no_homes (tt, tt, tt) lines false at_start e words refl ended
+      by (Some lines) e =
+          let shape = direct_shape site codes after_fits encodable few only program no_homes (tt, tt, tt) (record { encodable = All-nil IsEncodable; silent = refl; operate = refl }) lines false at_start e words refl ended in
+          let short = shape.short in
+          record { each = shape.each; kept = shape.kept; goes = shape.goes; writes = shape.writes; short = omega arith }
 
 -- ---- they follow the program's tree
 module _ (p : Placement) (site : Site) (codes : List AlphaInstr) (setting : Setting p site codes) (leaves : LeavingFollows p site codes) where
@@ -109,7 +112,7 @@ module _ (p : Placement) (site : Site) (codes : List AlphaInstr) (setting : Sett
           → Always p None (length (unwrap_or o (program_lines site codes program))) (at_place regs pc) (tree (ends p) (course_of program (found p site) standing))
       by None e w = follows p site codes setting leaves program at_start standing regs pc w sized words reads ready refl ended h range agree
       by (Some lines) e w =
-          direct_follows p site codes setting program no_homes lines at_start standing regs pc e w words reads refl ended
+          direct_follows p site codes setting program no_homes lines at_start standing regs pc e w words reads refl ended refl
           (record { holds = h; are = (tt, tt, tt); values = λ temp r home. absurd (none temp r home) }) agree
         where
           none : (temp r : ℕ) → home_of no_homes temp ≡ Some r → ⊥

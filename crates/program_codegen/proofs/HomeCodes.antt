@@ -43,7 +43,7 @@ not_false false e = refl
 not_false true e = absurd (cc e)
 
 -- only a conditional move reads what it writes
-held_unread : (op : OperateOp) (a b h h' : ℕ) → is_choice op ≡ false → result_of op a b h ≡ result_of op a b h'
+pub held_unread : (op : OperateOp) (a b h h' : ℕ) → is_choice op ≡ false → result_of op a b h ≡ result_of op a b h'
 held_unread row.Cmoveq a b h h' e = absurd (cc e)
 held_unread row.Cmovne a b h h' e = absurd (cc e)
 held_unread op a b h h' e = refl

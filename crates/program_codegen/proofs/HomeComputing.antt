@@ -599,6 +599,25 @@ module _ (p : Placement) (site : Site) (known : Known) (homes : Homes) (standing
   two_compared ZeroExtend o e = absurd (cc e)
   two_compared op o e = refl
 
+  right : (u f : Bool) → u ≡ false → (u || f) ≡ true → f ≡ true
+  right true f e h = absurd (cc e)
+  right false f e h = h
+
+  -- a copy, and a word that makes the result
+  pub copies_then : (to : ℕ) (op : MicroOp) (size : Size) (a b : Arg) (r : ℕ) → computation_fits known to op a b ≡ true → IsArgument a → copied homes to op size a ≡ Some r → After to op size a b regs
+  copies_then to op size a b r ok a_is e =
+      let x = all_four (nat_lt to 64) (argument_fits known a) (is_unary op || argument_fits known b) (not (is_select op) || holds known to) ok in
+      copies to op size a b r a_is x.1 e
+
+  pub makes_then : (to : ℕ) (op : MicroOp) (size : Size) (a b : Arg) (word : AlphaInstr) → computation_fits known to op a b ≡ true → IsArgument a → (is_unary op ≡ false → IsArgument b) → is_direct homes to op size a b ≡ true
+      → copied homes to op size a ≡ None → made homes to op size a b ≡ Some word → After to op size a b (effect word regs)
+  makes_then to op size a b word ok a_is b_is direct none e =
+      let x = all_four (nat_lt to 64) (argument_fits known a) (is_unary op || argument_fits known b) (not (is_select op) || holds known to) ok in
+      let y = all_three (not (is_quad size) || is_some (made homes to op size a b)) (not (is_select op)) (not (is_shared homes to)) direct in
+      let m = made_word homes to op size a b word e in
+      let two = binary op m.2.operation m.2.is_operation in
+      makes to op size a b word a_is x.1 (b_is two) (right (is_unary op) (argument_fits known b) two x.2) none e (not-true (is_shared homes to) y.2)
+
   -- the words of a computation, and then what comes behind
   pub computes : (need pc to : ℕ) (op : MicroOp) (size : Size) (a b : Arg) (rest : List Line) (t : Tree)
       → Within p site.behind pc (map plain (direct_code homes to op size a b) ++ rest) → 1 ≤ length rest
@@ -614,10 +633,6 @@ module _ (p : Placement) (site : Site) (known : Known) (homes : Homes) (standing
       by (λ flag lt e. ready flag lt (takes_first flag e)) second x.1 y.0 (not-true (is_select op) y.1) (not-true (is_shared homes to) y.2)
       (copied homes to op size a) refl (made homes to op size a b) refl (compared homes to op size a b) refl (is_long_constant to op size a) refl w behind
     where
-      right : (u f : Bool) → u ≡ false → (u || f) ≡ true → f ≡ true
-      right true f e h = absurd (cc e)
-      right false f e h = h
-
       takes_by : (first second unary : Bool) → first ≡ true → (first || (not unary && second)) ≡ true
       takes_by true second unary e = refl
       takes_by false second unary e = absurd (cc e)

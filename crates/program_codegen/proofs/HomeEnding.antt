@@ -1,33 +1,33 @@
 -- The end of a program whose operands are used where they stand: the codes, the register that is written, and what comes behind.
-use Rattle.std.proofs.Common.{◌≡◌, ℕ, ◌+◌, ◌/◌, ◌%◌, ◌^◌, ◌<◌, ◌≤◌, refl, sym, ap, ◌∙◌, subst, arith, List, [], ◌++◌, length, map, Option, Some, None, Bool, true, false, lit<, lit≤, length-append}
-use Rattle.std.specs.Prelude.{◌==◌, not, is_none, slice_set, unwrap_or, if◌then◌else◌}
+use Rattle.std.proofs.Common.{◌≡◌, ℕ, ◌+◌, ◌/◌, ◌%◌, ◌^◌, ◌<◌, ◌≤◌, refl, sym, ap, ◌∙◌, subst, arith, eqb-true, List, [], ◌∷◌, ◌++◌, length, map, Option, Some, None, Bool, true, false, lit<, lit≤, length-append}
+use Rattle.std.specs.Prelude.{◌==◌, not, is_none, option_and_then, slice_set, unwrap_or, if◌then◌else◌}
 use Rattle.std.specs.List.{list_all}
 use Rattle.std.proofs.lemmas.Bool.Decides.{nat_tests}
 use Rattle.std.proofs.lemmas.Bool.{ltb-true}
 use Rattle.vt_words.specs.Quad.{left, sign_extended}
 use Rattle.vt_words.proofs.Longwords.{extended_again, extended_low, same_extended}
 use Rattle.vax_form.specs.State.{with_core, with_pc, with_register}
-use Rattle.vax_form.specs.Tree.{Finish, Tree}
+use Rattle.vax_form.specs.Tree.{Finish}
 use Rattle.vax_form.specs.declared.instr.Size.{Size}
 use Rattle.vax_form.specs.declared.instr.Size.TheVariants.{Byte, Word, Long, Quad}
 use Rattle.vax_form.specs.declared.state.Flags.{Flags}
 use Rattle.alpha_encode.specs.declared.instr.AlphaInstr.{AlphaInstr}
 use Rattle.alpha_encode.specs.declared.instr.AlphaInstr.TheVariants.{Operate}
-use Rattle.alpha_encode.specs.declared.instr.OperateOp.TheVariants.{Addl}
-use Rattle.alpha_encode.specs.declared.instr.Second.TheVariants.{Literal}
-use Rattle.alpha_meaning.specs.Loops.{effects, fine}
-use Rattle.alpha_meaning.specs.Result.{long, plus}
+use Rattle.alpha_meaning.specs.Act.{second_value}
+use Rattle.alpha_meaning.specs.Loops.{effect, effects, fine, is_operate}
+use Rattle.alpha_meaning.specs.Result.{long, plus, result_of}
 use Rattle.alpha_meaning.specs.State.{Regs, at_place, put}
-use Rattle.alpha_meaning.proofs.Registers.{put_other}
+use Rattle.alpha_meaning.proofs.Registers.{put_other, put_same}
 use Rattle.alpha_meaning.proofs.Rules.{effects_only}
 use Rattle.exception_records.specs.Codes.{codes_by, comparison_codes, difference_codes, low, result_codes, sum_codes}
 use Rattle.exception_records.specs.Shown.{codes_shown, registers_shown, still_held}
 use Rattle.exception_records.specs.declared.rules.CodeRule.{CodeRule}
 use Rattle.exception_records.specs.declared.rules.CodeRule.TheVariants as rules
+use Rattle.micro_ops.specs.declared.known.Holding.TheVariants.{Nothing}
 use Rattle.micro_ops.specs.declared.known.Known.{Known}
 use Rattle.micro_ops.specs.declared.program.Exit.{Exit}
 use Rattle.micro_ops.specs.declared.program.Exit.TheVariants as exits
-use Rattle.micro_ops.specs.Fits.{exit_fits, same, sources_fit}
+use Rattle.micro_ops.specs.Fits.{exit_fits, is_from_psw, is_from_values, same, sources_fit}
 use Rattle.micro_ops.specs.Known.{held, holds, is_something}
 use Rattle.micro_ops.specs.Leaving.{CodesComeFrom, SignsComeFrom, state_left}
 use Rattle.micro_ops.specs.Meaning.{Departure, Ended, Standing, departed, leaves_by, traps}
@@ -37,29 +37,30 @@ use Rattle.micro_ops.specs.Uses.{is_quad}
 use Rattle.micro_ops.proofs.Held.{by_six}
 use Rattle.block_law.specs.CodeWords.{codes_in, may_be_written, temps_in}
 use Rattle.block_law.specs.Placements.{Placement}
-use Rattle.block_law.proofs.Kept.{registers_put}
+use Rattle.block_law.proofs.Kept.{registers_put, form_kept}
 use Rattle.block_law.proofs.Rules.{Always, goes, operates, roomy}
 use Rattle.program_codegen.specs.declared.direct.Raised.{Raised}
+use Rattle.block_law.specs.Tidy.{is_kept}
 use Rattle.program_codegen.specs.declared.homes.Homes.{Homes}
-use Rattle.program_codegen.specs.declared.lines.Line.{Line}
 use Rattle.program_codegen.specs.declared.points.Site.{Site}
-use Rattle.program_codegen.specs.Homes.{IsHome, are_short_rules, commit_stays, commit_words, end_lines, exit_stays, home_at, home_of, is_operand, is_short_rule, may_end, moved_words, none_raised, raised_at}
+use Rattle.program_codegen.specs.Homes.{IsHome, are_short_rules, commit_stays, commit_words, end_lines, exit_stays, home_at, home_of, is_operand, is_short_rule, may_end, moved_words, none_raised, raised_at, commits_result, end_words, goes_alone, made_commit, spared, spared_words, waiting_words}
 use Rattle.program_codegen.specs.Programs.{IsExit}
 use Rattle.program_codegen.specs.Words.{departing, plain, trap_lines}
-use Rattle.program_codegen.proofs.Coded.{Coded, carry_by, coded_by, fine_operates, signs_by, sources_parts}
+use Rattle.program_codegen.proofs.Coded.{Coded, carry_by, coded_by, fine_operates, registers_same, signs_by, sources_parts}
 use Rattle.program_codegen.proofs.Committing.{above, form_register}
-use Rattle.program_codegen.proofs.Computing.{held_still, held_value}
+use Rattle.program_codegen.proofs.Computing.{codes_kept, held_still, held_value}
 use Rattle.program_codegen.proofs.Departures.{departs_some, same_psw}
 use Rattle.program_codegen.proofs.Exiting.{chooses, exits_to}
-use Rattle.program_codegen.proofs.HomeCodes.{Moved, home_stays, moved_effects}
+use Rattle.program_codegen.proofs.HomeCodes.{Moved, held_unread, home_stays, moved_effects}
 use Rattle.program_codegen.proofs.HomeHolding.{Direct, held_own, hidden, home_is}
 use Rattle.program_codegen.proofs.HomeNumbers.{IsExtended}
 use Rattle.program_codegen.proofs.HomeShapes.{moved_fine}
-use Rattle.program_codegen.proofs.Holding.{Setting, ends, found, tree}
+use Rattle.program_codegen.proofs.HomeSparing.{Apart, Shortened, end_operates, makes_it, put_alike, shortened, spared_effects}
+use Rattle.program_codegen.proofs.Holding.{HoldsAs, Setting, ends, found, tree}
 use Rattle.program_codegen.proofs.Numbers.{all_three, all_four, committed_is}
 use Rattle.program_codegen.proofs.Testing.{trap_or, traps_first}
 use Rattle.program_codegen.proofs.Trapping.{ExitHolds, Overflows}
-use Rattle.program_codegen.proofs.Walk.{Within, is_inside, row_length, row_rest, row_words, stands}
+use Rattle.program_codegen.proofs.Walk.{Within, is_inside, row_length, row_rest, row_words}
 
 -- ---- what rules tell by low longwords
 low_same : (size : Size) (a b : ℕ) → not (is_quad size) ≡ true → a % 2 ^ 32 ≡ b % 2 ^ 32 → low size a ≡ low size b
@@ -237,25 +238,13 @@ coded_commit p site known standing regs number value lt c = record {
     same_before = rw (out 15 (lit≤ tt), out 16 (lit≤ tt), out 17 (lit≤ tt), out 18 (lit≤ tt), out 19 (lit≤ tt), out 28 (lit≤ tt), out 29 (lit≤ tt), out 30 (lit≤ tt)) refl
 
 module _ (p : Placement) (site : Site) (codes : List AlphaInstr) (setting : Setting p site codes) (known : Known) (homes : Homes) (standing : Standing) (regs : Regs) (d : Direct p site known homes standing regs) where
-  commits : (words : List AlphaInstr) (commit : Option (ℕ × ℕ)) (need pc : ℕ) (rest : List Line) (t : Tree) → list_all (fine (may_be_written site.sources)) words ≡ true
-      → commit_stays commit ≡ true → CommitFits known commit → Within p site.behind pc (map plain (commit_words homes commit) ++ rest) → 1 ≤ length rest
-      → Coded p site (hidden homes known) standing (effects words regs)
-      → ((g : Regs) → Coded p site (hidden homes known) (committed commit standing) g → Always p None need (at_place g (pc + length (commit_words homes commit))) t)
-      → Always p None (length (commit_words homes commit) + need) (at_place (effects words regs) pc) t
-  commits words None need pc rest t only stays is w some c behind =
-      let here : pc + 0 ≡ pc = omega arith in
-      roomy p None need (0 + need) (at_place (effects words regs) pc) t (omega arith) (subst (λ q. Always p None need (at_place (effects words regs) q) t) here (behind (effects words regs) c))
-  commits words (Some commit) need pc rest t only stays is w some c behind =
-      let end = w.high in
-      let f = effects words regs in
-      let from = ltb-true commit.1 3 stays in
-      roomy p None (need + 1) (1 + need) (at_place (effects words regs) pc) t (omega arith)
-      (goes p None need (at_place (effects words regs) pc) (at_place (put (effects words regs) commit.0 (long (plus (effects words regs (place (home_of homes commit.1))) 0))) (pc + 1)) (Operate Addl (place (home_of homes commit.1)) (Literal 0) commit.0) t
-      (stands p site.behind pc (Operate Addl (place (home_of homes commit.1)) (Literal 0) commit.0) None rest w) refl (omega arith) (is_inside p site.behind pc (pc + 1) _ w (omega arith) (omega arith))
-      (behind (put (effects words regs) commit.0 (long (plus (effects words regs (place (home_of homes commit.1))) 0)))
-      (subst (λ value. Coded p site (hidden homes known) (committed (Some commit) standing) (put (effects words regs) commit.0 value))
+  committed_coded : (words : List AlphaInstr) (commit : Option (ℕ × ℕ)) → list_all (fine (may_be_written site.sources)) words ≡ true → commit_stays commit ≡ true → CommitFits known commit
+      → Coded p site (hidden homes known) standing (effects words regs) → Coded p site (hidden homes known) (committed commit standing) (effects (commit_words homes commit) (effects words regs))
+  committed_coded words None only stays is c = c
+  committed_coded words (Some commit) only stays is c =
+      subst (λ value. Coded p site (hidden homes known) (committed (Some commit) standing) (put (effects words regs) commit.0 value))
       (sym (committed_is (effects words regs (place (home_of homes commit.1))) ∙ same_extended (effects words regs (place (home_of homes commit.1))) (standing.temps commit.1) (is_low (home_of homes commit.1) refl)))
-      (coded_commit p site (hidden homes known) standing (effects words regs) commit.0 (standing.temps commit.1) is.0 c))))
+      (coded_commit p site (hidden homes known) standing (effects words regs) commit.0 (standing.temps commit.1) is.0 c)
     where
       place : Option ℕ → ℕ
       place home = unwrap_or home (21 + commit.1)
@@ -277,7 +266,7 @@ module _ (p : Placement) (site : Site) (codes : List AlphaInstr) (setting : Sett
           twice : (n : ℕ) → n % 2 ^ 32 ≡ n % 2 ^ 32 % 2 ^ 32
           twice n = omega arith
 
-  -- ---- the whole end
+  -- ---- what is known at the end
   exit_known : (exit : Exit) → exit_stays homes exit ≡ true → exit_fits known exit ≡ true → ExitHolds (hidden homes known) exit
   exit_known exits.Next stays ok = tt
   exit_known (exits.Fixed address) stays ok = tt
@@ -310,52 +299,178 @@ module _ (p : Placement) (site : Site) (codes : List AlphaInstr) (setting : Sett
   same_psw_left None = refl
   same_psw_left (Some commit) = refl
 
-  ends_by : (exit : Exit) (onward : Departure) (commit : Option (ℕ × ℕ)) (words : List AlphaInstr) (pc : ℕ) → moved_words homes codes ≡ Some words
+-- ---- the words up to the end
+-- no temporary holds anything
+abbrev pub emptied : Known → Known
+emptied known = record known { temp0 = Nothing; temp1 = Nothing; temp2 = Nothing; temp3 = Nothing; temp4 = Nothing; temp5 = Nothing }
+
+-- registers that show the same
+coded_alike : (p : Placement) (site : Site) (known : Known) (standing : Standing) (old new : Regs) → ((n : ℕ) → (n == 23) ≡ false → new n ≡ old n) → Coded p site known standing old → Coded p site (emptied known) standing new
+coded_alike p site known standing old new same c = record {
+  form = form_kept old new kept (same 31 refl) c.form;
+  temps = λ temp lt three four. by_six (λ n. HoldsAs (held (emptied known) n) (standing.temps n) (new (21 + n))) tt tt tt tt tt tt temp lt;
+  state = c.state ∙ ap (λ (rs : List ℕ). with_core p.begun rs p.begun.pc standing.state.psw) (sym (registers_same old new (λ n lt. same n (low n lt))));
+  upper = c.upper ∙ ap (λ n. n / 16) (sym (same 20 refl));
+  before = λ e f. codes_kept old new site.before p.held kept ∙ c.before e f;
+  codes = codes_kept old new site.behind (still_held p.held p.written) kept ∙ c.codes;
+}
+  where
+    kept : (n : ℕ) → is_kept n ≡ true → new n ≡ old n
+    kept n e = same n (apart n e)
+      where
+        apart : (n : ℕ) → is_kept n ≡ true → (n == 23) ≡ false
+        apart n e = grind (arith, nat_tests, e)
+
+    low : (n : ℕ) → n < 15 → (n == 23) ≡ false
+    low n lt = grind (arith, nat_tests)
+
+effects_append : (is js : List AlphaInstr) (f : Regs) → effects (is ++ js) f ≡ effects js (effects is f)
+effects_append [] js f = refl
+effects_append (i ∷ is) js f = effects_append is js (effect i f)
+
+-- what stands behind those words
+record Behind (p : Placement) (site : Site) (known : Known) (standing : Standing) (exit : Exit) (regs : Regs) : Type 0 where
+  pub now : Known
+  pub coded : Coded p site now standing regs
+  pub same_codes : now.codes ≡ known.codes
+  pub same_changed : now.psw ≡ known.psw
+  pub exit_holds : ExitHolds now exit
+
+module _ (p : Placement) (site : Site) (codes : List AlphaInstr) (setting : Setting p site codes) (known : Known) (homes : Homes) (standing : Standing) (regs : Regs) (d : Direct p site known homes standing (effects (waiting_words homes.waiting) regs)) where
+  abbrev direct_regs : Regs
+  direct_regs = effects (waiting_words homes.waiting) regs
+
+  -- the result is made where it goes
+  short_end : (commit : Option (ℕ × ℕ)) (exit : Exit) (words row : List AlphaInstr) (made : AlphaInstr) → Shortened homes commit exit words made row → homes.waiting ≡ Some made
+      → Coded p site (hidden homes known) (committed commit standing) (effects (commit_words homes commit) (effects words (effects (waiting_words homes.waiting) regs)))
+      → Behind p site (hidden homes known) (committed commit standing) exit (effects row regs)
+  short_end commit exit words row made s waits c = record {
+    now = emptied (hidden homes known);
+    coded = subst (λ row. Coded p site (emptied (hidden homes known)) (committed commit standing) (effects row regs)) (sym (s.whole ∙ ap (λ made. s.front ++ made_commit made commit) s.is))
+        (subst (Coded p site (emptied (hidden homes known)) (committed commit standing)) (sym (effects_append s.front (made_commit (Operate s.operation s.first s.second 23) commit) regs))
+        (coded_alike p site (hidden homes known) (committed commit standing) (effects (commit_words homes commit) (effects words begun)) (effects (made_commit (Operate s.operation s.first s.second 23) commit) (effects s.front regs)) (at_end commit s.commits) (subst (λ (o : Option AlphaInstr). Coded p site (hidden homes known) (committed commit standing) (effects (commit_words homes commit) (effects words (effects (waiting_words o) regs)))) whole_made c)));
+    same_codes = refl;
+    same_changed = refl;
+    exit_holds = holds exit s.alone;
+  }
+    where
+      whole_made : homes.waiting ≡ Some (Operate s.operation s.first s.second 23)
+      whole_made = waits ∙ ap (λ made. Some made) s.is
+
+      begun : Regs
+      begun = effect (Operate s.operation s.first s.second 23) regs
+
+      y : ℕ
+      y = result_of s.operation (regs s.first) (second_value s.second regs) (regs 23)
+
+      there : put regs 23 (result_of s.operation (regs s.first) (second_value s.second regs) (regs 23)) 23 ≡ result_of s.operation (regs s.first) (second_value s.second regs) (regs 23)
+      there = put_same regs 23 (result_of s.operation (regs s.first) (second_value s.second regs) (regs 23)) refl
+
+      zero_read : put regs 23 (result_of s.operation (regs s.first) (second_value s.second regs) (regs 23)) 31 ≡ 0
+      zero_read = subst (λ (o : Option AlphaInstr). effects (waiting_words o) regs 31 ≡ 0) whole_made d.holds.form.zero
+
+      extended : IsExtended y
+      extended = subst IsExtended there (subst (λ (o : Option AlphaInstr). IsExtended (effects (waiting_words o) regs 23)) whole_made (d.values 2 23 s.home).1)
+
+      apart : Apart s.operation s.first s.second s.unheld y (effects s.front regs) (effects words begun)
+      apart = spared_effects s.operation s.first s.second s.unheld y words s.front regs begun (subst (λ made. spared_words made words ≡ Some s.front) s.is s.found) (record {
+        same = λ n not_so. sym (put_other regs 23 (result_of s.operation (regs s.first) (second_value s.second regs) (regs 23)) n not_so);
+        made = held_unread s.operation (regs s.first) (second_value s.second regs) 0 (regs 23) s.unheld;
+        there = there;
+        zero = zero_read;
+      })
+
+      at_end : (commit : Option (ℕ × ℕ)) → commits_result commit ≡ true → (n : ℕ) → (n == 23) ≡ false
+          → effects (made_commit (Operate s.operation s.first s.second 23) commit) (effects s.front regs) n ≡ effects (commit_words homes commit) (effects words begun) n
+      at_end None is n not_so = apart.same n not_so
+      at_end (Some commit) is n not_so =
+          let from : home_of homes commit.1 ≡ Some 23 = ap (home_of homes) (eqb-true commit.1 2 is) ∙ s.home in
+          let place : unwrap_or (home_of homes commit.1) (21 + commit.1) ≡ 23 = ap (λ (o : Option ℕ). unwrap_or o (21 + commit.1)) from in
+          let value : long (plus (effects words begun (unwrap_or (home_of homes commit.1) (21 + commit.1))) 0) ≡ y = ap (λ n. long (plus (effects words begun n) 0)) place ∙ (ap (λ n. long (plus n 0)) apart.there ∙ (committed_is y ∙ extended)) in
+          put_alike (effects s.front regs) (effects words begun) commit.0 _ _ n
+          (makes_it s.operation s.first s.second s.unheld y (effects s.front regs) (effects words begun) (effects s.front regs commit.0) apart ∙ sym value) (apart.same n not_so)
+
+      holds : (exit : Exit) → goes_alone exit ≡ true → ExitHolds (emptied (hidden homes known)) exit
+      holds exits.Next e = tt
+      holds (exits.Fixed address) e = tt
+      holds (exits.Choice when taken other) e = absurd (cc e)
+      holds (exits.Computed temp) e = absurd (cc e)
+      holds (exits.Service temp) e = absurd (cc e)
+      holds exits.Breakpoint e = absurd (cc e)
+
+  end_coded : (commit : Option (ℕ × ℕ)) (exit : Exit) (words : List AlphaInstr) → ExitHolds (hidden homes known) exit
+      → Coded p site (hidden homes known) (committed commit standing) (effects (commit_words homes commit) (effects words (effects (waiting_words homes.waiting) regs)))
+      → Behind p site (hidden homes known) (committed commit standing) exit (effects (end_words homes.waiting homes commit exit words) regs)
+  end_coded commit exit words holds c = by (option_and_then (spared homes commit exit words) homes.waiting) refl
+    where
+      all : effects (waiting_words homes.waiting ++ (words ++ commit_words homes commit)) regs ≡ effects (commit_words homes commit) (effects words (effects (waiting_words homes.waiting) regs))
+      all = effects_append (waiting_words homes.waiting) (words ++ commit_words homes commit) regs ∙ effects_append words (commit_words homes commit) (effects (waiting_words homes.waiting) regs)
+
+      by : (o : Option (List AlphaInstr)) → option_and_then (spared homes commit exit words) homes.waiting ≡ o
+          → Behind p site (hidden homes known) (committed commit standing) exit (effects (unwrap_or o (waiting_words homes.waiting ++ (words ++ commit_words homes commit))) regs)
+      by None e = record { now = hidden homes known; coded = subst (Coded p site (hidden homes known) (committed commit standing)) (sym all) c; same_codes = refl; same_changed = refl; exit_holds = holds }
+      by (Some row) e = let x = waited homes.waiting refl e in short_end commit exit words row x.0 (shortened homes commit exit words x.0 row x.2) x.1 c
+        where
+          waited : (o : Option AlphaInstr) → homes.waiting ≡ o → option_and_then (spared homes commit exit words) o ≡ Some row → (made : AlphaInstr) × (homes.waiting ≡ Some made) × (spared homes commit exit words made ≡ Some row)
+          waited None f e = absurd (cc e)
+          waited (Some made) f e = (made, f, e)
+
+  -- ---- the whole end
+  ends_by : (exit : Exit) (onward : Departure) (commit : Option (ℕ × ℕ)) (words : List AlphaInstr) (pc : ℕ) → list_all is_operate (waiting_words homes.waiting) ≡ true → moved_words homes codes ≡ Some words
       → Within p site.behind pc (end_lines site homes commit exit words) → commit_stays commit ≡ true → exit_stays homes exit ≡ true → are_short_rules site.behind ≡ true → CommitFits known commit
       → IsExit exit → exit_fits known exit ≡ true → sources_fit site.sources known ≡ true
       → CodesComeFrom site.sources p.begun (record { departure = trap_or site (committed commit standing) exit onward; temps = (committed commit standing).temps }) → (state_left onward).psw ≡ (committed commit standing).state.psw
-      → ((g : Regs) (pc' : ℕ) → Coded p site (hidden homes known) (committed commit standing) g → Within p site.behind pc' (departing site exit) → Always p None (length (departing site exit)) (at_place g pc') (departed p.serve onward))
+      → ((now : Known) (g : Regs) (pc' : ℕ) → Coded p site now (committed commit standing) g → ExitHolds now exit → Within p site.behind pc' (departing site exit) → Always p None (length (departing site exit)) (at_place g pc') (departed p.serve onward))
       → Always p None (length (end_lines site homes commit exit words)) (at_place regs pc) (departed p.serve (trap_or site (committed commit standing) exit onward))
-  ends_by exit onward commit words pc moved w stays exit_ok short fits is ok sources come left behind =
+  ends_by exit onward commit words pc waits moved w stays exit_ok short fits is ok sources come left behind =
       let some = departs_some p site codes setting exit in
       let only = moved_fine homes d.are (may_be_written site.sources) codes words moved setting.leaves.only in
       let rest = trap_lines site exit ++ departing site exit in
-      let first = row_length p site.behind words (map plain (commit_words homes commit) ++ rest) in
-      let second = row_length p site.behind (commit_words homes commit) rest in
+      let row = end_words homes.waiting homes commit exit words in
+      let first = row_length p site.behind (end_words homes.waiting homes commit exit words) rest in
       let third = length-append (trap_lines site exit) (departing site exit) in
       let whole = same_psw (committed commit standing) _ onward (traps (committed commit standing)) left in
       let high = w.high in
       let t = departed p.serve (trap_or site (committed commit standing) exit onward) in
-      let c = leaves_codes p site codes setting known homes standing regs d words (trap_or site (committed commit standing) exit onward) moved sources short (whole ∙ same_psw_left commit)
-      (subst (λ temps. CodesComeFrom site.sources p.begun (record { departure = trap_or site (committed commit standing) exit onward; temps = temps })) (same_temps commit) come) in
-      let w1 = row_rest p site.behind pc words (map plain (commit_words homes commit) ++ rest) w in
-      let w2 = row_rest p site.behind (pc + length words) (commit_words homes commit) rest w1 in
-      let signs = subst (λ temps. SignsComeFrom site.sources.nzv p.begun.psw (state_left (trap_or site (committed commit standing) exit onward)).psw temps) (same_temps commit) come.signs in
-      roomy p None (length words + (length (commit_words homes commit) + (length (trap_lines site exit) + length (departing site exit)))) (length (end_lines site homes commit exit words)) (at_place regs pc) t (omega arith)
-      (operates p None (length (commit_words homes commit) + (length (trap_lines site exit) + length (departing site exit))) words regs pc t (row_words p site.behind pc words (map plain (commit_words homes commit) ++ rest) w)
-      (fine_operates (may_be_written site.sources) words only) w.low (omega arith) (λ q lt le. is_inside p site.behind pc q (map plain words ++ (map plain (commit_words homes commit) ++ rest)) w lt (omega arith))
-      (commits words commit (length (trap_lines site exit) + length (departing site exit)) (pc + length words) rest t only stays fits w1 (omega arith) c
-      (λ g coded. traps_first p site (hidden homes known) (committed commit standing) setting.after p.begun.psw setting.written (overflows commit _ sources whole signs) setting.narrow
-      (length (departing site exit)) (pc + length words + length (commit_words homes commit)) exit (departing site exit) g onward coded is (exit_known exit exit_ok ok) w2 some
-      (λ g' pc' untrapped c' w'. behind g' pc' c' w'))))
+      let c = leaves_codes p site codes setting known homes standing direct_regs d words (trap_or site (committed commit standing) exit onward) moved sources short (whole ∙ same_psw_left p site codes setting known homes standing direct_regs d commit)
+      (subst (λ temps. CodesComeFrom site.sources p.begun (record { departure = trap_or site (committed commit standing) exit onward; temps = temps })) (same_temps p site codes setting known homes standing direct_regs d commit) come) in
+      let e = end_coded commit exit words (exit_known p site codes setting known homes standing direct_regs d exit exit_ok ok) (committed_coded p site codes setting known homes standing direct_regs d words commit only stays fits c) in
+      let w1 = row_rest p site.behind pc (end_words homes.waiting homes commit exit words) rest w in
+      let signs = subst (λ temps. SignsComeFrom site.sources.nzv p.begun.psw (state_left (trap_or site (committed commit standing) exit onward)).psw temps) (same_temps p site codes setting known homes standing direct_regs d commit) come.signs in
+      let o = overflows p site codes setting known homes standing direct_regs d commit _ sources whole signs in
+      roomy p None (length (end_words homes.waiting homes commit exit words) + (length (trap_lines site exit) + length (departing site exit))) (length (end_lines site homes commit exit words)) (at_place regs pc) t (omega arith)
+      (operates p None (length (trap_lines site exit) + length (departing site exit)) (end_words homes.waiting homes commit exit words) regs pc t (row_words p site.behind pc (end_words homes.waiting homes commit exit words) rest w)
+      (end_operates homes commit exit words waits (fine_operates (may_be_written site.sources) words only)) w.low (omega arith) (λ q lt le. is_inside p site.behind pc q (map plain (end_words homes.waiting homes commit exit words) ++ (trap_lines site exit ++ departing site exit)) w lt (omega arith))
+      (traps_first p site e.now (committed commit standing) setting.after p.begun.psw setting.written (still_overflows e.now e.same_codes e.same_changed commit o) setting.narrow
+      (length (departing site exit)) (pc + length (end_words homes.waiting homes commit exit words)) exit (departing site exit) (effects (end_words homes.waiting homes commit exit words) regs) onward e.coded is e.exit_holds w1 some
+      (λ g' pc' untrapped c' w'. behind e.now g' pc' c' e.exit_holds w')))
+    where
+      still_overflows : (now : Known) → now.codes ≡ known.codes → now.psw ≡ known.psw → (commit : Option (ℕ × ℕ)) → Overflows site (hidden homes known) (committed commit standing) p.begun.psw → Overflows site now (committed commit standing) p.begun.psw
+      still_overflows now same_codes same_psw commit o = record {
+        codes_fit = subst (λ b. same b (is_from_values site.sources.nzv) ≡ true) (sym same_codes) o.codes_fit;
+        psw_fits = subst (λ b. same b (is_from_psw site.sources.nzv) ≡ true) (sym same_psw) o.psw_fits;
+        overflowed = λ e f. o.overflowed (sym same_codes ∙ e) (sym same_psw ∙ f);
+        no_overflow = λ e. o.no_overflow (sym same_codes ∙ e);
+        signs = o.signs;
+      }
 
-  pub end_follows : (exit : Exit) (commit : Option (ℕ × ℕ)) (words : List AlphaInstr) (pc : ℕ) → moved_words homes codes ≡ Some words
+  pub end_follows : (exit : Exit) (commit : Option (ℕ × ℕ)) (words : List AlphaInstr) (pc : ℕ) → list_all is_operate (waiting_words homes.waiting) ≡ true → moved_words homes codes ≡ Some words
       → Within p site.behind pc (end_lines site homes commit exit words) → may_end site homes commit exit ≡ true → CommitFits known commit
       → IsExit exit → exit_fits known exit ≡ true → sources_fit site.sources known ≡ true
       → AtLeaves (CodesComeFrom site.sources p.begun) (leaves_by exit (found p site) (committed commit standing))
       → Always p None (length (end_lines site homes commit exit words)) (at_place regs pc) (tree (ends p) (leaves_by exit (found p site) (committed commit standing)))
-  end_follows exits.Next commit words pc moved w may fits is ok sources agree =
+  end_follows exits.Next commit words pc waits moved w may fits is ok sources agree =
       let x = all_three (commit_stays commit) (exit_stays homes exits.Next) (are_short_rules site.behind) may in
-      ends_by exits.Next (Ended (Finish (with_pc site.after (committed commit standing).state))) commit words pc moved w x.0 x.1 x.2 fits is ok sources agree refl
-      (λ g pc' c w'. exits_to p site (hidden homes known) (committed commit standing) g c pc' site.after [] w')
-  end_follows (exits.Fixed address) commit words pc moved w may fits is ok sources agree =
+      ends_by exits.Next (Ended (Finish (with_pc site.after (committed commit standing).state))) commit words pc waits moved w x.0 x.1 x.2 fits is ok sources agree refl
+      (λ now g pc' c holds w'. exits_to p site now (committed commit standing) g c pc' site.after [] w')
+  end_follows (exits.Fixed address) commit words pc waits moved w may fits is ok sources agree =
       let x = all_three (commit_stays commit) (exit_stays homes (exits.Fixed address)) (are_short_rules site.behind) may in
-      ends_by (exits.Fixed address) (Ended (Finish (with_pc address (committed commit standing).state))) commit words pc moved w x.0 x.1 x.2 fits is ok sources agree refl
-      (λ g pc' c w'. exits_to p site (hidden homes known) (committed commit standing) g c pc' address [] w')
-  end_follows (exits.Choice when taken other) commit words pc moved w may fits is ok sources agree =
+      ends_by (exits.Fixed address) (Ended (Finish (with_pc address (committed commit standing).state))) commit words pc waits moved w x.0 x.1 x.2 fits is ok sources agree refl
+      (λ now g pc' c holds w'. exits_to p site now (committed commit standing) g c pc' address [] w')
+  end_follows (exits.Choice when taken other) commit words pc waits moved w may fits is ok sources agree =
       let x = all_three (commit_stays commit) (exit_stays homes (exits.Choice when taken other)) (are_short_rules site.behind) may in
-      ends_by (exits.Choice when taken other) (Ended (Finish (with_pc (if (committed commit standing).temps when == 0 then other else taken) (committed commit standing).state))) commit words pc moved w x.0 x.1 x.2 fits is ok sources agree refl
-      (λ g pc' c w'. chooses p site (hidden homes known) (committed commit standing) g c pc' when taken other w' is.0 (exit_known (exits.Choice when taken other) x.1 ok))
-  end_follows (exits.Computed temp) commit words pc moved w may fits is ok sources agree = let x = all_three (commit_stays commit) (exit_stays homes (exits.Computed temp)) (are_short_rules site.behind) may in absurd (cc x.1)
-  end_follows (exits.Service temp) commit words pc moved w may fits is ok sources agree = let x = all_three (commit_stays commit) (exit_stays homes (exits.Service temp)) (are_short_rules site.behind) may in absurd (cc x.1)
-  end_follows exits.Breakpoint commit words pc moved w may fits is ok sources agree = let x = all_three (commit_stays commit) (exit_stays homes exits.Breakpoint) (are_short_rules site.behind) may in absurd (cc x.1)
+      ends_by (exits.Choice when taken other) (Ended (Finish (with_pc (if (committed commit standing).temps when == 0 then other else taken) (committed commit standing).state))) commit words pc waits moved w x.0 x.1 x.2 fits is ok sources agree refl
+      (λ now g pc' c holds w'. chooses p site now (committed commit standing) g c pc' when taken other w' is.0 holds)
+  end_follows (exits.Computed temp) commit words pc waits moved w may fits is ok sources agree = let x = all_three (commit_stays commit) (exit_stays homes (exits.Computed temp)) (are_short_rules site.behind) may in absurd (cc x.1)
+  end_follows (exits.Service temp) commit words pc waits moved w may fits is ok sources agree = let x = all_three (commit_stays commit) (exit_stays homes (exits.Service temp)) (are_short_rules site.behind) may in absurd (cc x.1)
+  end_follows exits.Breakpoint commit words pc waits moved w may fits is ok sources agree = let x = all_three (commit_stays commit) (exit_stays homes exits.Breakpoint) (are_short_rules site.behind) may in absurd (cc x.1)

@@ -1,13 +1,15 @@
 -- The words of a program whose operands are used where they stand follow its tree.
 use Rattle.std.proofs.Common.{◌≡◌, ℕ, ◌+◌, ◌%◌, ◌^◌, ◌<◌, ◌≤◌, refl, sym, ap, ◌∙◌, subst, arith, List, [], ◌∷◌, ◌++◌, length, map, Option, Some, None, Bool, true, false, length-append}
 use Rattle.std.specs.Prelude.{◌==◌, ◌&&◌, not, nat_lt, option_map, option_and_then, if◌then◌else◌}
-use Rattle.std.specs.List.{list_any}
+use Rattle.std.specs.List.{list_all, list_any}
 use Rattle.std.proofs.lemmas.Bool.Decides.{nat_tests}
 use Rattle.std.proofs.lemmas.Bool.{and_parts, or_left, or_right}
 use Rattle.std.proofs.lemmas.Option.{same_Some}
 use Rattle.vax_form.specs.State.{with_register}
+use Rattle.vax_form.specs.Tree.{Tree}
 use Rattle.vax_form.specs.declared.instr.Size.{Size}
 use Rattle.alpha_encode.specs.declared.instr.AlphaInstr.{AlphaInstr}
+use Rattle.alpha_meaning.specs.Loops.{effects, is_operate}
 use Rattle.alpha_meaning.specs.State.{Regs, at_place}
 use Rattle.micro_ops.specs.declared.known.Known.{Known}
 use Rattle.micro_ops.specs.declared.program.Arg.{Arg}
@@ -25,22 +27,22 @@ use Rattle.micro_ops.specs.Uses.{leaves_longword, reads_flag}
 use Rattle.micro_ops.specs.Values.{computed}
 use Rattle.micro_ops.proofs.Held.{held_other}
 use Rattle.block_law.specs.Placements.{Placement}
-use Rattle.block_law.proofs.Rules.{Always, roomy}
+use Rattle.block_law.proofs.Rules.{Always, operates, roomy}
 use Rattle.program_codegen.specs.declared.homes.Homes.{Homes}
 use Rattle.program_codegen.specs.declared.lines.Line.{Line}
 use Rattle.program_codegen.specs.declared.points.Site.{Site}
-use Rattle.program_codegen.specs.Homes.{are_short_rules, commit_stays, commit_words, direct_code, direct_end, direct_lines, direct_step, end_at, end_lines, exit_behind, exit_stays, is_direct, may_end, moved_words, new_home, with_home}
+use Rattle.program_codegen.specs.Homes.{are_short_rules, commit_stays, copied, direct_by, direct_code, direct_end, direct_lines, direct_step, end_at, end_lines, end_words, exit_behind, exit_stays, is_direct, made, may_end, moved_words, new_home, step_by, waiting_words, with_home}
 use Rattle.program_codegen.specs.Programs.{AllHaveWords, ReadsReady}
 use Rattle.program_codegen.specs.Words.{departing, plain, trap_lines}
 use Rattle.program_codegen.proofs.Committing.{sets_codes}
 use Rattle.program_codegen.proofs.Following.{departs, opened}
-use Rattle.program_codegen.proofs.HomeComputing.{computes}
+use Rattle.program_codegen.proofs.HomeComputing.{computes, copies_then, made_word, makes_then}
 use Rattle.program_codegen.proofs.HomeEnding.{CommitFits, committed, end_follows}
 use Rattle.program_codegen.proofs.HomeHolding.{Direct, committing, hidden, written}
 use Rattle.program_codegen.proofs.Holding.{Setting, ends, found, tree}
 use Rattle.program_codegen.proofs.Knowing.{walk_fits, write_changes}
 use Rattle.program_codegen.proofs.Numbers.{all_three}
-use Rattle.program_codegen.proofs.Walk.{Within, row_length, row_rest}
+use Rattle.program_codegen.proofs.Walk.{Within, is_inside, row_length, row_rest, row_words}
 
 -- ---- what there is, if something is
 pub record Mapped (A B : Type 0) (f : A → B) (o : Option A) (y : B) : Type 0 where
@@ -64,23 +66,36 @@ chained A B f (Some x) y e = record { found = x; is = refl; onward = e }
 -- ---- a step
 pub record Stepped (site : Site) (homes : Homes) (to : ℕ) (op : MicroOp) (size : Size) (a b : Arg) (program : List Micro) (step : Homes × List AlphaInstr) (out : Bool) : Type 0 where
   pub direct : out ≡ false → is_direct homes to op size a b ≡ true
-  pub homes_then : step.0 ≡ (if out then homes else with_home to (new_home homes to op size a b) homes)
-  pub words_then : step.1 ≡ (if out then [] else direct_code homes to op size a b)
+  pub is : step ≡ (if out then (homes, []) else direct_by homes to op size a b)
 
 pub stepped : (site : Site) (homes : Homes) (to : ℕ) (op : MicroOp) (size : Size) (a b : Arg) (program : List Micro) (step : Homes × List AlphaInstr) → (out : Bool) → is_left_out site.sources (Compute to op size a b) program ≡ out
     → direct_step site.sources homes to op size a b program ≡ Some step → Stepped site homes to op size a b program step out
-stepped site homes to op size a b program step out is e = by out (is_direct homes to op size a b) refl (ap (λ (c : Bool). if c then Some (homes, []) else if is_direct homes to op size a b then Some (with_home to (new_home homes to op size a b) homes, direct_code homes to op size a b) else None) (sym is) ∙ e)
+stepped site homes to op size a b program step out is e = by out (is_direct homes to op size a b) refl (ap (λ (c : Bool). if c then Some (homes, []) else if is_direct homes to op size a b then Some (direct_by homes to op size a b) else None) (sym is) ∙ e)
   where
     by : (out direct : Bool) → is_direct homes to op size a b ≡ direct
-        → (if out then Some (homes, []) else if direct then Some (with_home to (new_home homes to op size a b) homes, direct_code homes to op size a b) else None) ≡ Some step
+        → (if out then Some (homes, []) else if direct then Some (direct_by homes to op size a b) else None) ≡ Some step
         → Stepped site homes to op size a b program step out
-    by true direct is e =
-        let same = same_Some (homes, []) step e in
-        record { direct = λ not_so. absurd (cc not_so); homes_then = ap (λ (s : Homes × List AlphaInstr). s.0) (sym same); words_then = ap (λ (s : Homes × List AlphaInstr). s.1) (sym same) }
-    by false true is e =
-        let same = same_Some (with_home to (new_home homes to op size a b) homes, direct_code homes to op size a b) step e in
-        record { direct = λ not_so. is; homes_then = ap (λ (s : Homes × List AlphaInstr). s.0) (sym same); words_then = ap (λ (s : Homes × List AlphaInstr). s.1) (sym same) }
+    by true direct is e = record { direct = λ not_so. absurd (cc not_so); is = sym (same_Some (homes, []) step e) }
+    by false true is e = record { direct = λ not_so. is; is = sym (same_Some (direct_by homes to op size a b) step e) }
     by false false is e = absurd (cc e)
+
+-- what waits does so behind a write
+pub waits_same : (to : ℕ) (home : Option ℕ) (homes : Homes) → (with_home to home homes).waiting ≡ homes.waiting
+waits_same to home homes = by (to == 0) refl (to == 1) refl (to == 2) refl
+  where
+    by : (a : Bool) → (to == 0) ≡ a → (b : Bool) → (to == 1) ≡ b → (c : Bool) → (to == 2) ≡ c → (with_home to home homes).waiting ≡ homes.waiting
+    by true e b f c g = rw e refl
+    by false e true f c g = rw (e, f) refl
+    by false e false f true g = rw (e, f, g) refl
+    by false e false f false g = rw (e, f, g) refl
+
+-- it is one word that operates, or none
+abbrev pub Waits : Homes → Type 0
+Waits homes = list_all is_operate (waiting_words homes.waiting) ≡ true
+
+pub row_apart : (xs ys : List AlphaInstr) (rest : List Line) → map plain (xs ++ ys) ++ rest ≡ map plain xs ++ (map plain ys ++ rest)
+row_apart [] ys rest = refl
+row_apart (x ∷ xs) ys rest = ap (λ (lines : List Line). plain x ∷ lines) (row_apart xs ys rest)
 
 -- ---- the end
 pub record Ended (site : Site) (codes : List AlphaInstr) (homes : Homes) (commit : Option (ℕ × ℕ)) (exit : Exit) (lines : List Line) : Type 0 where
@@ -107,12 +122,11 @@ module _ (site : Site) (codes : List AlphaInstr) where
       let x = ended site codes homes c.found.0 c.found.1 lines c.onward in
       let some = departs site c.found.1 in
       let rest = trap_lines site c.found.1 ++ departing site c.found.1 in
-      subst (λ (ls : List Line). 1 ≤ length ls) x.whole (last (map plain x.words) (map plain (commit_words homes c.found.0)) (trap_lines site c.found.1) (departing site c.found.1) some)
+      subst (λ (ls : List Line). 1 ≤ length ls) x.whole (last (map plain (end_words homes.waiting homes c.found.0 c.found.1 x.words)) (trap_lines site c.found.1) (departing site c.found.1) some)
     where
-      last : (xs bs cs ds : List Line) → 1 ≤ length ds → 1 ≤ length (xs ++ (bs ++ (cs ++ ds)))
-      last xs bs cs ds some =
-          let x = length-append xs (bs ++ (cs ++ ds)) in
-          let y = length-append bs (cs ++ ds) in
+      last : (xs cs ds : List Line) → 1 ≤ length ds → 1 ≤ length (xs ++ (cs ++ ds))
+      last xs cs ds some =
+          let x = length-append xs (cs ++ ds) in
           let z = length-append cs ds in
           omega arith
 
@@ -213,11 +227,11 @@ module _ (p : Placement) (site : Site) (codes : List AlphaInstr) (setting : Sett
       → exit_behind site.sources program ≡ Some exit → may_end site homes commit exit ≡ true → moved_words homes codes ≡ Some words
       → Within p site.behind pc (end_lines site homes commit exit words) → AllHaveWords site.sources program
       → known.ended ≡ false → is_ended (walk site.sources known program) ≡ true → CommitFits known commit
-      → Direct p site known homes standing regs → AtLeaves (CodesComeFrom site.sources p.begun) (Course_of program (committed commit standing))
+      → Waits homes → Direct p site known homes standing (effects (waiting_words homes.waiting) regs) → AtLeaves (CodesComeFrom site.sources p.begun) (Course_of program (committed commit standing))
       → Always p None (length (end_lines site homes commit exit words)) (at_place regs pc) (tree (ends p) (Course_of program (committed commit standing)))
   unfolding step
-  ending [] exit commit homes words known standing regs pc e may moved w have off walked fits d agree = absurd (cc e)
-  ending (Compute to op size a b ∷ program) exit commit homes words known standing regs pc e may moved w have off walked fits d agree =
+  ending [] exit commit homes words known standing regs pc e may moved w have off walked fits waits d agree = absurd (cc e)
+  ending (Compute to op size a b ∷ program) exit commit homes words known standing regs pc e may moved w have off walked fits waits d agree =
       let behind = behind_write to (holding_of (leaves_longword (Compute to op size a b))) known in
       let x = walk_fits (computation_fits known to op a b) behind (λ behind. walk site.sources behind program) (opened site.sources known (Compute to op size a b) program off walked) in
       let y = out_of (is_left_out site.sources (Compute to op size a b) program) exit (exit_behind site.sources program) e in
@@ -227,30 +241,30 @@ module _ (p : Placement) (site : Site) (codes : List AlphaInstr) (setting : Sett
       let same = value_committed commit to (computed op size (value_of_arg (found p site) (committed commit standing).temps a) (value_of_arg (found p site) (committed commit standing).temps b) ((committed commit standing).temps to)) standing stays high in
       subst (λ (s : Standing). Always p None (length (end_lines site homes commit exit words)) (at_place regs pc) (tree (ends p) (Course_of program s))) (sym same)
       (ending program exit commit homes words behind (with_value to value standing) regs pc y.1 may moved w have.1
-      ((write_changes to (holding_of (leaves_longword (Compute to op size a b))) known).ended ∙ off) x.1 (fits_behind commit known to op size a b stays high fits)
-      (left_out known homes standing regs to op size a b program value y.0 d)
+      ((write_changes to (holding_of (leaves_longword (Compute to op size a b))) known).ended ∙ off) x.1 (fits_behind commit known to op size a b stays high fits) waits
+      (left_out known homes standing (effects (waiting_words homes.waiting) regs) to op size a b program value y.0 d)
       (subst (λ (s : Standing). AtLeaves (CodesComeFrom site.sources p.begun) (Course_of program s)) same agree))
-  ending (Codes n z v c ∷ program) exit commit homes words known standing regs pc e may moved w have off walked fits d agree =
+  ending (Codes n z v c ∷ program) exit commit homes words known standing regs pc e may moved w have off walked fits waits d agree =
       let x = walk_fits (codes_fit known n z v c) (record known { codes = true; changed = true }) (λ behind. walk site.sources behind program) (opened site.sources known (Codes n z v c) program off walked) in
       let same = codes_committed commit n z v c standing in
       subst (λ (s : Standing). Always p None (length (end_lines site homes commit exit words)) (at_place regs pc) (tree (ends p) (Course_of program s))) (sym same)
-      (ending program exit commit homes words (record known { codes = true; changed = true }) (with_codes n z v c standing) regs pc e may moved w have.1 off x.1 (fits_coded commit known fits)
-      (set_codes n z v c known homes standing regs d)
+      (ending program exit commit homes words (record known { codes = true; changed = true }) (with_codes n z v c standing) regs pc e may moved w have.1 off x.1 (fits_coded commit known fits) waits
+      (set_codes n z v c known homes standing (effects (waiting_words homes.waiting) regs) d)
       (subst (λ (s : Standing). AtLeaves (CodesComeFrom site.sources p.begun) (Course_of program s)) same agree))
-  ending (Leave leave ∷ program) exit commit homes words known standing regs pc e may moved w have off walked fits d agree =
+  ending (Leave leave ∷ program) exit commit homes words known standing regs pc e may moved w have off walked fits waits d agree =
       let x = walk_fits (exit_fits known leave && sources_fit site.sources known) (record known { ended = true }) (λ behind. walk site.sources behind program) (opened site.sources known (Leave leave) program off walked) in
       let y = and_parts (exit_fits known leave) (sources_fit site.sources known) x.0 in
       let same = same_Some leave exit e in
       subst (λ exit'. Always p None (length (end_lines site homes commit exit' words)) (at_place regs pc) (tree (ends p) (leaves_by leave (found p site) (committed commit standing)))) same
-      (end_follows p site codes setting known homes standing regs d leave commit words pc moved
+      (end_follows p site codes setting known homes standing regs d leave commit words pc waits moved
       (subst (λ exit'. Within p site.behind pc (end_lines site homes commit exit' words)) (sym same) w) (subst (λ exit'. may_end site homes commit exit' ≡ true) (sym same) may) fits have.0 y.0 y.1 agree)
-  ending (Probe place count write ∷ program) exit commit homes words known standing regs pc e may moved w have off walked fits d agree = absurd (cc e)
-  ending (Refuse when ∷ program) exit commit homes words known standing regs pc e may moved w have off walked fits d agree = absurd (cc e)
-  ending (Read to place count ∷ program) exit commit homes words known standing regs pc e may moved w have off walked fits d agree = absurd (cc e)
-  ending (Write place count source ∷ program) exit commit homes words known standing regs pc e may moved w have off walked fits d agree = absurd (cc e)
-  ending (Locked to place kind source ∷ program) exit commit homes words known standing regs pc e may moved w have off walked fits d agree = absurd (cc e)
-  ending (Commit number source ∷ program) exit commit homes words known standing regs pc e may moved w have off walked fits d agree = absurd (cc e)
-  ending (SetPsw source ∷ program) exit commit homes words known standing regs pc e may moved w have off walked fits d agree = absurd (cc e)
+  ending (Probe place count write ∷ program) exit commit homes words known standing regs pc e may moved w have off walked fits waits d agree = absurd (cc e)
+  ending (Refuse when ∷ program) exit commit homes words known standing regs pc e may moved w have off walked fits waits d agree = absurd (cc e)
+  ending (Read to place count ∷ program) exit commit homes words known standing regs pc e may moved w have off walked fits waits d agree = absurd (cc e)
+  ending (Write place count source ∷ program) exit commit homes words known standing regs pc e may moved w have off walked fits waits d agree = absurd (cc e)
+  ending (Locked to place kind source ∷ program) exit commit homes words known standing regs pc e may moved w have off walked fits waits d agree = absurd (cc e)
+  ending (Commit number source ∷ program) exit commit homes words known standing regs pc e may moved w have off walked fits waits d agree = absurd (cc e)
+  ending (SetPsw source ∷ program) exit commit homes words known standing regs pc e may moved w have off walked fits waits d agree = absurd (cc e)
 
   -- ---- the program
   later_flags : (operation : Micro) (program : List Micro) → ReadsReady site.before (operation ∷ program) → ReadsReady site.before program
@@ -262,62 +276,119 @@ module _ (p : Placement) (site : Site) (codes : List AlphaInstr) (setting : Sett
   pub direct_follows : (program : List Micro) (homes : Homes) (lines : List Line) (known : Known) (standing : Standing) (regs : Regs) (pc : ℕ)
       → direct_lines site codes homes program ≡ Some lines → Within p site.behind pc lines → AllHaveWords site.sources program → ReadsReady site.before program
       → known.ended ≡ false → is_ended (walk site.sources known program) ≡ true
-      → Direct p site known homes standing regs → AtLeaves (CodesComeFrom site.sources p.begun) (Course_of program standing)
+      → Waits homes → Direct p site known homes standing (effects (waiting_words homes.waiting) regs) → AtLeaves (CodesComeFrom site.sources p.begun) (Course_of program standing)
       → Always p None (length lines) (at_place regs pc) (tree (ends p) (Course_of program standing))
   unfolding step
-  direct_follows [] homes lines known standing regs pc e w have reads off walked d agree = absurd (cc e)
-  direct_follows (Compute to op size a b ∷ program) homes lines known standing regs pc e w have reads off walked d agree =
+  direct_follows [] homes lines known standing regs pc e w have reads off walked waits d agree = absurd (cc e)
+  direct_follows (Compute to op size a b ∷ program) homes lines known standing regs pc e w have reads off walked waits d agree =
       let behind = behind_write to (holding_of (leaves_longword (Compute to op size a b))) known in
       let x = walk_fits (computation_fits known to op a b) behind (λ behind. walk site.sources behind program) (opened site.sources known (Compute to op size a b) program off walked) in
       let off' = (write_changes to (holding_of (leaves_longword (Compute to op size a b))) known).ended ∙ off in
       let c = chained (Homes × List AlphaInstr) (List Line) (λ (step : Homes × List AlphaInstr). option_map (λ (lines : List Line). map plain step.1 ++ lines) (direct_lines site codes step.0 program)) (direct_step site.sources homes to op size a b program) lines e in
       let m = mapped (List Line) (List Line) (λ (lines : List Line). map plain c.found.1 ++ lines) (direct_lines site codes c.found.0 program) lines c.onward in
-      by c.found m.found m.is m.whole x.0 (λ standing' g pc' homes' is' w' d' agree'. direct_follows program homes' m.found behind standing' g pc' is' w' have.1 (later_flags (Compute to op size a b) program reads) off' x.1 d' agree')
+      by c.found m.found m.is m.whole x.0 (λ standing' g pc' homes' is' w' waits' d' agree'. direct_follows program homes' m.found behind standing' g pc' is' w' have.1 (later_flags (Compute to op size a b) program reads) off' x.1 waits' d' agree')
       (is_left_out site.sources (Compute to op size a b) program) refl (stepped site homes to op size a b program c.found (is_left_out site.sources (Compute to op size a b) program) refl c.is)
     where
-      by : (step : Homes × List AlphaInstr) (rest : List Line) → direct_lines site codes step.0 program ≡ Some rest → map plain step.1 ++ rest ≡ lines → computation_fits known to op a b ≡ true
-          → ((standing' : Standing) (g : Regs) (pc' : ℕ) (homes' : Homes) → direct_lines site codes homes' program ≡ Some rest → Within p site.behind pc' rest → Direct p site (behind_write to (holding_of (leaves_longword (Compute to op size a b))) known) homes' standing' g
-          → AtLeaves (CodesComeFrom site.sources p.begun) (Course_of program standing') → Follows program rest standing' g pc')
+      value : ℕ
+      value = computed op size (value_of_arg (found p site) standing.temps a) (value_of_arg (found p site) standing.temps b) (standing.temps to)
+
+      after : Known
+      after = behind_write to (holding_of (leaves_longword (Compute to op size a b))) known
+
+      begun : Regs
+      begun = effects (waiting_words homes.waiting) regs
+
+      homes_then : Homes
+      homes_then = with_home to (new_home homes to op size a b) homes
+
+      Onward : List Line → Type 0
+      Onward rest = (standing' : Standing) (g : Regs) (pc' : ℕ) (homes' : Homes) → direct_lines site codes homes' program ≡ Some rest → Within p site.behind pc' rest → Waits homes'
+          → Direct p site (behind_write to (holding_of (leaves_longword (Compute to op size a b))) known) homes' standing' (effects (waiting_words homes'.waiting) g)
+          → AtLeaves (CodesComeFrom site.sources p.begun) (Course_of program standing') → Follows program rest standing' g pc'
+
+      -- the word that waits comes first
+      first : (need : ℕ) (rest : List Line) (t : Tree) → 1 ≤ length rest → Within p site.behind pc (map plain (waiting_words homes.waiting) ++ rest)
+          → Always p None need (at_place (effects (waiting_words homes.waiting) regs) (pc + length (waiting_words homes.waiting))) t
+          → Always p None (length (waiting_words homes.waiting) + need) (at_place regs pc) t
+      first need rest t some w behind =
+          let count = row_length p site.behind (waiting_words homes.waiting) rest in
+          let high = w.high in
+          operates p None need (waiting_words homes.waiting) regs pc t (row_words p site.behind pc (waiting_words homes.waiting) rest w) waits w.low (omega arith)
+          (λ q lt le. is_inside p site.behind pc q (map plain (waiting_words homes.waiting) ++ rest) w lt (omega arith)) behind
+
+      by_words : (rest : List Line) → computation_fits known to op a b ≡ true → Onward rest → is_left_out site.sources (Compute to op size a b) program ≡ false → is_direct homes to op size a b ≡ true
+          → (o : Option ℕ) → copied homes to op size a ≡ o → (q : Option AlphaInstr) → made homes to op size a b ≡ q
+          → direct_lines site codes (step_by o q homes.waiting homes_then (direct_code homes to op size a b)).0 program ≡ Some rest
+          → Within p site.behind pc (map plain (step_by o q homes.waiting homes_then (direct_code homes to op size a b)).1 ++ rest)
+          → Always p None (length (map plain (step_by o q homes.waiting homes_then (direct_code homes to op size a b)).1 ++ rest)) (at_place regs pc) (tree (ends p) (Course_of (Compute to op size a b ∷ program) standing))
+      by_words rest fits onward out direct (Some r) e q f is w =
+          let has = have.0 out in
+          let d' = copies_then p site known homes standing begun d to op size a b r fits has.1 e in
+          onward (with_value to value standing) regs pc homes_then is w
+          (subst (λ (o : Option AlphaInstr). list_all is_operate (waiting_words o) ≡ true) (sym (waits_same to (new_home homes to op size a b) homes)) waits)
+          (subst (λ (o : Option AlphaInstr). Direct p site after homes_then (with_value to value standing) (effects (waiting_words o) regs)) (sym (waits_same to (new_home homes to op size a b) homes)) d') agree
+      by_words rest fits onward out direct None e (Some word) f is w =
+          let has = have.0 out in
+          let m = made_word homes to op size a b word f in
+          let d' = makes_then p site known homes standing begun d to op size a b word fits has.1 has.2 direct e f in
+          let some = direct_some site codes program (record homes_then { waiting = Some word }) rest is in
+          let count = row_length p site.behind (waiting_words homes.waiting) rest in
+          roomy p None (length (waiting_words homes.waiting) + length rest) (length (map plain (waiting_words homes.waiting) ++ rest)) (at_place regs pc) _ (omega arith)
+          (first (length rest) rest _ some w
+          (onward (with_value to value standing) begun (pc + length (waiting_words homes.waiting)) (record homes_then { waiting = Some word }) is (row_rest p site.behind pc (waiting_words homes.waiting) rest w)
+          (subst (λ (word : AlphaInstr). list_all is_operate (word ∷ []) ≡ true) (sym m.2.is) refl)
+          (record { holds = d'.holds; are = d'.are; values = d'.values }) agree))
+      by_words rest fits onward out direct None e None f is w =
+          let has = have.0 out in
+          let some = direct_some site codes program (record homes_then { waiting = None }) rest is in
+          let split = row_apart (waiting_words homes.waiting) (direct_code homes to op size a b) rest in
+          let w' = subst (Within p site.behind pc) split w in
+          let w1 = row_rest p site.behind pc (waiting_words homes.waiting) (map plain (direct_code homes to op size a b) ++ rest) w' in
+          let count = row_length p site.behind (waiting_words homes.waiting) (map plain (direct_code homes to op size a b) ++ rest) in
+          let more = row_length p site.behind (direct_code homes to op size a b) rest in
+          let same = ap (λ (lines : List Line). length lines) split in
+          roomy p None (length (waiting_words homes.waiting) + (length (direct_code homes to op size a b) + length rest)) (length (map plain (waiting_words homes.waiting ++ direct_code homes to op size a b) ++ rest)) (at_place regs pc) _ (omega arith)
+          (first (length (direct_code homes to op size a b) + length rest) (map plain (direct_code homes to op size a b) ++ rest) _ (omega arith) w'
+          (computes p site known homes standing begun d (length rest) (pc + length (waiting_words homes.waiting)) to op size a b rest _ w1 some fits has.0 has.1 has.2
+          (λ flag lt is. reads flag lt (or_left (reads_flag flag (Compute to op size a b)) (list_any (reads_flag flag) program) is)) direct
+          (λ g d'. onward (with_value to value standing) g (pc + length (waiting_words homes.waiting) + length (direct_code homes to op size a b)) (record homes_then { waiting = None }) is
+          (row_rest p site.behind (pc + length (waiting_words homes.waiting)) (direct_code homes to op size a b) rest w1) refl (record { holds = d'.holds; are = d'.are; values = d'.values }) agree)))
+
+      by : (step : Homes × List AlphaInstr) (rest : List Line) → direct_lines site codes step.0 program ≡ Some rest → map plain step.1 ++ rest ≡ lines → computation_fits known to op a b ≡ true → Onward rest
           → (out : Bool) → is_left_out site.sources (Compute to op size a b) program ≡ out → Stepped site homes to op size a b program step out
           → Always p None (length lines) (at_place regs pc) (tree (ends p) (Course_of (Compute to op size a b ∷ program) standing))
       by step rest is whole fits onward true out s =
-          let same : rest ≡ lines = ap (λ (words : List AlphaInstr). map plain words ++ rest) (sym s.words_then) ∙ whole in
-          subst (λ (ls : List Line). Always p None (length ls) (at_place regs pc) (tree (ends p) (Course_of program (with_value to (computed op size (value_of_arg (found p site) standing.temps a) (value_of_arg (found p site) standing.temps b) (standing.temps to)) standing)))) same
-          (onward (with_value to (computed op size (value_of_arg (found p site) standing.temps a) (value_of_arg (found p site) standing.temps b) (standing.temps to)) standing) regs pc homes (subst (λ h. direct_lines site codes h program ≡ Some rest) s.homes_then is) (subst (Within p site.behind pc) (sym same) w)
-          (left_out known homes standing regs to op size a b program (computed op size (value_of_arg (found p site) standing.temps a) (value_of_arg (found p site) standing.temps b) (standing.temps to)) out d) agree)
+          let same : rest ≡ lines = ap (λ (step : Homes × List AlphaInstr). map plain step.1 ++ rest) (sym s.is) ∙ whole in
+          subst (λ (ls : List Line). Always p None (length ls) (at_place regs pc) (tree (ends p) (Course_of program (with_value to value standing)))) same
+          (onward (with_value to value standing) regs pc homes (subst (λ (step : Homes × List AlphaInstr). direct_lines site codes step.0 program ≡ Some rest) s.is is) (subst (Within p site.behind pc) (sym same) w) waits
+          (left_out known homes standing begun to op size a b program value out d) agree)
       by step rest is whole fits onward false out s =
-          let same : map plain (direct_code homes to op size a b) ++ rest ≡ lines = ap (λ (words : List AlphaInstr). map plain words ++ rest) (sym s.words_then) ∙ whole in
-          let has = have.0 out in
-          let count = row_length p site.behind (direct_code homes to op size a b) rest in
-          let w' = subst (Within p site.behind pc) (sym same) w in
-          subst (λ (ls : List Line). Always p None (length ls) (at_place regs pc) (tree (ends p) (Course_of program (with_value to (computed op size (value_of_arg (found p site) standing.temps a) (value_of_arg (found p site) standing.temps b) (standing.temps to)) standing)))) same
-          (roomy p None (length (direct_code homes to op size a b) + length rest) (length (map plain (direct_code homes to op size a b) ++ rest)) (at_place regs pc) _ (omega arith)
-          (computes p site known homes standing regs d (length rest) pc to op size a b rest _ w' (direct_some site codes program step.0 rest is) fits has.0 has.1 has.2
-          (λ flag lt is. reads flag lt (or_left (reads_flag flag (Compute to op size a b)) (list_any (reads_flag flag) program) is)) (s.direct refl)
-          (λ g after. onward (with_value to (computed op size (value_of_arg (found p site) standing.temps a) (value_of_arg (found p site) standing.temps b) (standing.temps to)) standing) g (pc + length (direct_code homes to op size a b)) (with_home to (new_home homes to op size a b) homes)
-          (subst (λ h. direct_lines site codes h program ≡ Some rest) s.homes_then is) (row_rest p site.behind pc (direct_code homes to op size a b) rest w') after agree)))
-  direct_follows (Commit number source ∷ program) homes lines known standing regs pc e w have reads off walked d agree =
+          let same : map plain (direct_by homes to op size a b).1 ++ rest ≡ lines = ap (λ (step : Homes × List AlphaInstr). map plain step.1 ++ rest) (sym s.is) ∙ whole in
+          subst (λ (ls : List Line). Always p None (length ls) (at_place regs pc) (tree (ends p) (Course_of (Compute to op size a b ∷ program) standing))) same
+          (by_words rest fits onward out (s.direct refl) (copied homes to op size a) refl (made homes to op size a b) refl
+          (subst (λ (step : Homes × List AlphaInstr). direct_lines site codes step.0 program ≡ Some rest) s.is is) (subst (Within p site.behind pc) (sym same) w))
+  direct_follows (Commit number source ∷ program) homes lines known standing regs pc e w have reads off walked waits d agree =
       let x = walk_fits (commit_fits known number source) (behind_commit number known) (λ behind. walk site.sources behind program) (opened site.sources known (Commit number source) program off walked) in
       let y = all_three (nat_lt number 15) (holds known source) (not (is_committed known number)) x.0 in
       let z = with_exit site codes (Some (number, source)) (Commit number source) program homes lines refl e in
       let end = z.2 in
       subst (λ (ls : List Line). Follows (Commit number source ∷ program) ls standing regs pc) end.whole
       (ending program z.0 (Some (number, source)) homes end.words (behind_commit number known) standing regs pc z.1 end.may end.moved (subst (Within p site.behind pc) (sym end.whole) w) have.1 off x.1 (have.0.0, y.1)
-      (committing p site known homes number standing regs have.0.0 d) agree)
-  direct_follows (Codes n z v c ∷ program) homes lines known standing regs pc e w have reads off walked d agree =
+      waits (committing p site known homes number standing (effects (waiting_words homes.waiting) regs) have.0.0 d) agree)
+  direct_follows (Codes n z v c ∷ program) homes lines known standing regs pc e w have reads off walked waits d agree =
       let x = walk_fits (codes_fit known n z v c) (record known { codes = true; changed = true }) (λ behind. walk site.sources behind program) (opened site.sources known (Codes n z v c) program off walked) in
       let y = with_exit site codes None (Codes n z v c) program homes lines refl e in
       let end = y.2 in
       subst (λ (ls : List Line). Follows (Codes n z v c ∷ program) ls standing regs pc) end.whole
       (ending program y.0 None homes end.words (record known { codes = true; changed = true }) (with_codes n z v c standing) regs pc y.1 end.may end.moved (subst (Within p site.behind pc) (sym end.whole) w) have.1 off x.1 tt
-      (set_codes n z v c known homes standing regs d) agree)
-  direct_follows (Leave exit ∷ program) homes lines known standing regs pc e w have reads off walked d agree =
+      waits (set_codes n z v c known homes standing (effects (waiting_words homes.waiting) regs) d) agree)
+  direct_follows (Leave exit ∷ program) homes lines known standing regs pc e w have reads off walked waits d agree =
       let end = ends_with site codes (Leave exit) program homes lines None exit refl e in
       subst (λ (ls : List Line). Follows (Leave exit ∷ program) ls standing regs pc) end.whole
-      (ending (Leave exit ∷ program) exit None homes end.words known standing regs pc refl end.may end.moved (subst (Within p site.behind pc) (sym end.whole) w) have off walked tt d agree)
-  direct_follows (Probe place count write ∷ program) homes lines known standing regs pc e w have reads off walked d agree = absurd (cc e)
-  direct_follows (Refuse when ∷ program) homes lines known standing regs pc e w have reads off walked d agree = absurd (cc e)
-  direct_follows (Read to place count ∷ program) homes lines known standing regs pc e w have reads off walked d agree = absurd (cc e)
-  direct_follows (Write place count source ∷ program) homes lines known standing regs pc e w have reads off walked d agree = absurd (cc e)
-  direct_follows (Locked to place kind source ∷ program) homes lines known standing regs pc e w have reads off walked d agree = absurd (cc e)
-  direct_follows (SetPsw source ∷ program) homes lines known standing regs pc e w have reads off walked d agree = absurd (cc e)
+      (ending (Leave exit ∷ program) exit None homes end.words known standing regs pc refl end.may end.moved (subst (Within p site.behind pc) (sym end.whole) w) have off walked tt waits d agree)
+  direct_follows (Probe place count write ∷ program) homes lines known standing regs pc e w have reads off walked waits d agree = absurd (cc e)
+  direct_follows (Refuse when ∷ program) homes lines known standing regs pc e w have reads off walked waits d agree = absurd (cc e)
+  direct_follows (Read to place count ∷ program) homes lines known standing regs pc e w have reads off walked waits d agree = absurd (cc e)
+  direct_follows (Write place count source ∷ program) homes lines known standing regs pc e w have reads off walked waits d agree = absurd (cc e)
+  direct_follows (Locked to place kind source ∷ program) homes lines known standing regs pc e w have reads off walked waits d agree = absurd (cc e)
+  direct_follows (SetPsw source ∷ program) homes lines known standing regs pc e w have reads off walked waits d agree = absurd (cc e)

@@ -1,9 +1,9 @@
 -- The lines of a program whose operands are used where they stand, by themselves.
 use Rattle.std.proofs.Common.{◌≡◌, ℕ, ◌+◌, ◌-◌, ◌^◌, ◌<◌, ◌≤◌, refl, sym, ap, ap₂, ◌∙◌, subst, arith, List, [], ◌∷◌, ◌++◌, length, map, Option, Some, None, Bool, true, false, lit<, lit≤, length-append}
-use Rattle.std.specs.Prelude.{◌==◌, ◌&&◌, ◌||◌, is_some, not, nat_lt, All, option_map, unwrap_or, if◌then◌else◌}
+use Rattle.std.specs.Prelude.{◌==◌, ◌&&◌, ◌||◌, is_some, not, nat_lt, All, option_map, if◌then◌else◌}
 use Rattle.std.specs.List.{list_all, list_any}
 use Rattle.std.proofs.lemmas.Bool.Decides.{nat_tests}
-use Rattle.std.proofs.lemmas.Bool.{and_parts, ltb-true}
+use Rattle.std.proofs.lemmas.Bool.{and_parts, ltb-true, and_from}
 use Rattle.std.proofs.lemmas.List.{append-nil}
 use Rattle.std.proofs.lemmas.List.Elements.{All-nil}
 use Rattle.std.proofs.lemmas.List.Folds.{list_any-append}
@@ -17,7 +17,7 @@ use Rattle.alpha_encode.specs.declared.instr.OperateOp.{OperateOp}
 use Rattle.alpha_encode.specs.declared.instr.OperateOp.TheVariants as row
 use Rattle.alpha_encode.specs.declared.instr.Second.{Second}
 use Rattle.alpha_encode.specs.declared.instr.Second.TheVariants as seconds
-use Rattle.alpha_meaning.specs.Loops.{fine}
+use Rattle.alpha_meaning.specs.Loops.{fine, is_operate}
 use Rattle.micro_ops.specs.Exits.{addresses_of, exit_addresses}
 use Rattle.micro_ops.specs.declared.known.Known.{Known}
 use Rattle.micro_ops.specs.declared.program.Arg.{Arg}
@@ -42,20 +42,22 @@ use Rattle.block_law.specs.Tidy.{may_fault, register_written, writes_register}
 use Rattle.program_codegen.specs.declared.homes.Homes.{Homes}
 use Rattle.program_codegen.specs.declared.lines.Line.{Line}
 use Rattle.program_codegen.specs.declared.points.Site.{Site}
-use Rattle.program_codegen.specs.Homes.{AreHomes, IsHome, are_short_rules, code_by, commit_stays, commit_words, compared, comparison, copied, direct_code, direct_lines, direct_step, end_lines, exit_behind, exit_stays, extended_first, extended_second, home_by, home_of, is_const, is_copying, is_home_constant, is_long_constant, is_shared, extending, long_operation, made, may_end, moved_words, new_home, placed, standing_in, with_home}
+use Rattle.program_codegen.specs.Homes.{AreHomes, IsHome, are_short_rules, code_by, commit_stays, commit_words, compared, comparison, copied, direct_code, direct_lines, direct_step, end_lines, exit_behind, exit_stays, extended_first, extended_second, home_by, home_of, is_const, is_copying, is_home_constant, is_long_constant, is_shared, extending, long_operation, made, may_end, moved_words, new_home, placed, standing_in, with_home, end_words, is_short_constant, step_by, waiting_words}
 use Rattle.program_codegen.specs.Programs.{AllHaveWords, IsExit}
 use Rattle.program_codegen.specs.Words.{departing, plain, trap_lines, words_of}
-use Rattle.program_codegen.proofs.Endings.{below_codes, codes_local, codes_quiet, departing_each, departing_goes, departing_short, departing_spares, one_word, or_nothing, traps_silent}
+use Rattle.program_codegen.proofs.Coded.{fine_operates}
+use Rattle.program_codegen.proofs.Endings.{codes_local, codes_quiet, departing_each, departing_goes, departing_short, departing_spares, one_word, or_nothing, traps_silent}
 use Rattle.program_codegen.proofs.Following.{opened}
 use Rattle.program_codegen.proofs.Fronts.{Shape, any_neither, change_front, line_front, quiet_kept, row_targets, row_words_are, silent_front, spares_append, targets, targets_append, words_append}
 use Rattle.program_codegen.proofs.HomeComputing.{compared_word, copying, made_word, no_quad}
-use Rattle.program_codegen.proofs.HomeFollowing.{Stepped, chained, ends_with, mapped, stepped, with_exit}
+use Rattle.program_codegen.proofs.HomeFollowing.{Stepped, chained, ends_with, mapped, stepped, with_exit, row_apart, waits_same}
 use Rattle.program_codegen.proofs.HomeHolding.{copied_home, extended_home, home_is, homes_are, placed_is}
 use Rattle.program_codegen.proofs.HomeShapes.{moved_encodable, moved_fine, moved_length, moved_writes}
+use Rattle.program_codegen.proofs.HomeSparing.{IsNumbered, Waiting, commit_count, end_operates, end_row}
 use Rattle.program_codegen.proofs.Knowing.{nothing_behind, walk_fits, write_changes}
 use Rattle.program_codegen.proofs.Numbers.{all_three}
 use Rattle.program_codegen.proofs.Rows.{changes_silent, is_silent, list_all_of}
-use Rattle.program_codegen.proofs.Shapes.{each_append, is_local, plain_fits, row_fits}
+use Rattle.program_codegen.proofs.Shapes.{each_append, is_local, row_fits}
 use Rattle.program_codegen.proofs.Walk.{plain_length}
 
 -- ---- homes
@@ -251,14 +253,6 @@ module _ (homes : Homes) (are : AreHomes homes) where
           }
 
 -- ---- the end
-abbrev pub commit_count : Option (ℕ × ℕ) → ℕ
-commit_count None = 0
-commit_count (Some commit) = 1
-
-abbrev pub IsNumbered : Option (ℕ × ℕ) → Type 0
-IsNumbered None = Unit {0}
-IsNumbered (Some commit) = commit.0 < 15
-
 module _ (site : Site) (codes : List AlphaInstr) (after_fits : site.after < 2 ^ 32) (encodable : All IsEncodable codes) (few : length codes ≤ 32) (only : list_all (fine (may_be_written site.sources)) codes ≡ true) where
   quiet_exit : (homes : Homes) (exit : Exit) → exit_stays homes exit ≡ true → list_any may_fault (words_of (departing site exit)) ≡ false
   quiet_exit homes exits.Next stays = refl
@@ -282,139 +276,178 @@ module _ (site : Site) (codes : List AlphaInstr) (after_fits : site.after < 2 ^ 
         short = omega arith;
       }
 
-  commit_shape : (homes : Homes) → AreHomes homes → (commit : Option (ℕ × ℕ)) (addresses : List ℕ) (lines : List Line) → commit_stays commit ≡ true → IsNumbered commit → Shape site true [] addresses 27 lines
-      → Shape site true [] addresses (27 + commit_count commit) (map plain (commit_words homes commit) ++ lines)
-  commit_shape homes are None addresses lines stays is shape = shape
-  commit_shape homes are (Some commit) addresses lines stays is shape =
-      change_front site [] addresses true 1 27 28 (map plain (commit_words homes (Some commit))) lines
-      (line_front site (plain (Operate row.Addl (unwrap_or (home_of homes commit.1) (21 + commit.1)) (seconds.Literal 0) commit.0)) refl
-      (plain_fits site (Operate row.Addl (unwrap_or (home_of homes commit.1) (21 + commit.1)) (seconds.Literal 0) commit.0) (place (home_of homes commit.1) refl, lit< tt, omega arith) refl) (λ r low high. below_codes commit.0 r (omega arith) low))
-      refl (lit≤ tt) (lit≤ tt) shape
-    where
-      place : (o : Option ℕ) → home_of homes commit.1 ≡ o → unwrap_or o (21 + commit.1) < 32
-      place None e = let lt = ltb-true commit.1 3 stays in omega arith
-      place (Some r) e = let lt = (home_is homes are commit.1 r e).0 in omega arith
+  anything : (is : List AlphaInstr) → list_all is_operate is ≡ true → list_all (fine (λ n. true)) is ≡ true
+  anything is e = list_all_of is_operate (fine (λ n. true)) (λ i e. and_from (is_operate i) true e refl) is e
 
-  end_shape : (homes : Homes) → AreHomes homes → (commit : Option (ℕ × ℕ)) (exit : Exit) (words : List AlphaInstr) (changed : Bool) → moved_words homes codes ≡ Some words → may_end site homes commit exit ≡ true → IsNumbered commit → IsExit exit
-      → Shape site changed codes (exit_addresses site.after exit) (59 + commit_count commit) (end_lines site homes commit exit words)
-  end_shape homes are commit exit words changed moved may numbered is =
+  end_shape : (homes : Homes) → AreHomes homes → Waiting homes → (commit : Option (ℕ × ℕ)) (exit : Exit) (words : List AlphaInstr) (changed : Bool) → moved_words homes codes ≡ Some words → may_end site homes commit exit ≡ true → IsNumbered commit → IsExit exit
+      → Shape site changed codes (exit_addresses site.after exit) (59 + commit_count commit + length (waiting_words homes.waiting)) (end_lines site homes commit exit words)
+  end_shape homes are waits commit exit words changed moved may numbered is =
       let x = all_three (commit_stays commit) (exit_stays homes exit) (are_short_rules site.behind) may in
-      let rest = map plain (commit_words homes commit) ++ (trap_lines site exit ++ departing site exit) in
-      let behind = commit_shape homes are commit (exit_addresses site.after exit) (trap_lines site exit ++ departing site exit) x.0 numbered (leaving_shape homes exit is x.1) in
+      let rest = trap_lines site exit ++ departing site exit in
+      let row = end_words homes.waiting homes commit exit words in
+      let behind = leaving_shape homes exit is x.1 in
       let fine_words = moved_fine homes are (may_be_written site.sources) codes words moved only in
-      let size = length-append (map plain words) rest in
-      let count = plain_length words in
+      let operate = fine_operates (may_be_written site.sources) words fine_words in
+      let any = anything (end_words homes.waiting homes commit exit words) (end_operates homes commit exit words waits.operate operate) in
+      let s = end_row homes are waits commit exit words x.0 numbered (moved_encodable homes are codes words moved encodable) operate in
+      let size = length-append (map plain (end_words homes.waiting homes commit exit words)) rest in
+      let count = plain_length (end_words homes.waiting homes commit exit words) in
       let same = moved_length homes are codes words moved in
       let short = behind.short in
+      let most = s.few in
       record {
-        each = each_append site 0 (map plain words) rest (row_fits site words (moved_encodable homes are codes words moved encodable) (list_all_of (fine (may_be_written site.sources)) is_local (codes_local (may_be_written site.sources)) words fine_words)) behind.each;
-        kept = quiet_kept changed (words_of (map plain words ++ rest)) (any_neither may_fault (map plain words) rest (ap (list_any may_fault) (row_words_are words) ∙ codes_quiet (may_be_written site.sources) words fine_words) behind.kept);
-        goes = targets_append (map plain words) rest ∙ (ap (λ xs. xs ++ targets rest) (row_targets words) ∙ behind.goes);
+        each = each_append site 0 (map plain (end_words homes.waiting homes commit exit words)) rest (row_fits site (end_words homes.waiting homes commit exit words) s.encodable (list_all_of (fine (λ n. true)) is_local (codes_local (λ n. true)) (end_words homes.waiting homes commit exit words) any)) behind.each;
+        kept = quiet_kept changed (words_of (map plain (end_words homes.waiting homes commit exit words) ++ rest)) (any_neither may_fault (map plain (end_words homes.waiting homes commit exit words)) rest (ap (list_any may_fault) (row_words_are (end_words homes.waiting homes commit exit words)) ∙ codes_quiet (λ n. true) (end_words homes.waiting homes commit exit words) any) behind.kept);
+        goes = targets_append (map plain (end_words homes.waiting homes commit exit words)) rest ∙ (ap (λ xs. xs ++ targets rest) (row_targets (end_words homes.waiting homes commit exit words)) ∙ behind.goes);
         writes = λ r low high.
-            ap (writes_register r) (words_append (map plain words) rest)
-            ∙ (list_any-append (λ i. register_written i == r) (words_of (map plain words)) (words_of rest)
-            ∙ (ap (λ xs. writes_register r xs || writes_register r (words_of rest)) (row_words_are words)
-            ∙ (ap (λ b. writes_register r words || b) (behind.writes r low high) ∙ (or_nothing (writes_register r words) ∙ moved_writes homes are r high codes words moved))));
+            ap (writes_register r) (words_append (map plain (end_words homes.waiting homes commit exit words)) rest)
+            ∙ (list_any-append (λ i. register_written i == r) (words_of (map plain (end_words homes.waiting homes commit exit words))) (words_of rest)
+            ∙ (ap (λ xs. writes_register r xs || writes_register r (words_of rest)) (row_words_are (end_words homes.waiting homes commit exit words))
+            ∙ (ap (λ b. writes_register r (end_words homes.waiting homes commit exit words) || b) (behind.writes r low high) ∙ (or_nothing (writes_register r (end_words homes.waiting homes commit exit words)) ∙ (s.writes r low high ∙ moved_writes homes are r high codes words moved)))));
         short = omega arith;
       }
 
   -- from where a program comes to its end
-  ending_shape : (program : List Micro) (homes : Homes) → AreHomes homes → (commit : Option (ℕ × ℕ)) (exit : Exit) (words : List AlphaInstr) (changed : Bool) (known : Known)
+  ending_shape : (program : List Micro) (homes : Homes) → AreHomes homes → Waiting homes → (commit : Option (ℕ × ℕ)) (exit : Exit) (words : List AlphaInstr) (changed : Bool) (known : Known)
       → exit_behind site.sources program ≡ Some exit → moved_words homes codes ≡ Some words → may_end site homes commit exit ≡ true → IsNumbered commit
       → AllHaveWords site.sources program → known.ended ≡ false → is_ended (walk site.sources known program) ≡ true
-      → Shape site changed codes (addresses_of site.after program) (59 + commit_count commit) (end_lines site homes commit exit words)
+      → Shape site changed codes (addresses_of site.after program) (59 + commit_count commit + length (waiting_words homes.waiting)) (end_lines site homes commit exit words)
   unfolding step
-  ending_shape [] homes are commit exit words changed known e moved may numbered have off walked = absurd (cc e)
-  ending_shape (Compute to op size a b ∷ program) homes are commit exit words changed known e moved may numbered have off walked =
+  ending_shape [] homes are waits commit exit words changed known e moved may numbered have off walked = absurd (cc e)
+  ending_shape (Compute to op size a b ∷ program) homes are waits commit exit words changed known e moved may numbered have off walked =
       let behind = behind_write to (holding_of (leaves_longword (Compute to op size a b))) known in
       let x = walk_fits (computation_fits known to op a b) behind (λ behind. walk site.sources behind program) (opened site.sources known (Compute to op size a b) program off walked) in
-      ending_shape program homes are commit exit words changed behind (out_of (is_left_out site.sources (Compute to op size a b) program) (exit_behind site.sources program) e) moved may numbered have.1 ((write_changes to (holding_of (leaves_longword (Compute to op size a b))) known).ended ∙ off) x.1
+      ending_shape program homes are waits commit exit words changed behind (out_of (is_left_out site.sources (Compute to op size a b) program) (exit_behind site.sources program) e) moved may numbered have.1 ((write_changes to (holding_of (leaves_longword (Compute to op size a b))) known).ended ∙ off) x.1
     where
       out_of : (out : Bool) (o : Option Exit) → (if out then o else None) ≡ Some exit → o ≡ Some exit
       out_of true o e = e
       out_of false o e = absurd (cc e)
-  ending_shape (Codes n z v c ∷ program) homes are commit exit words changed known e moved may numbered have off walked =
+  ending_shape (Codes n z v c ∷ program) homes are waits commit exit words changed known e moved may numbered have off walked =
       let x = walk_fits (codes_fit known n z v c) (record known { codes = true; changed = true }) (λ behind. walk site.sources behind program) (opened site.sources known (Codes n z v c) program off walked) in
-      ending_shape program homes are commit exit words changed (record known { codes = true; changed = true }) e moved may numbered have.1 off x.1
-  ending_shape (Leave leave ∷ program) homes are commit exit words changed known e moved may numbered have off walked =
+      ending_shape program homes are waits commit exit words changed (record known { codes = true; changed = true }) e moved may numbered have.1 off x.1
+  ending_shape (Leave leave ∷ program) homes are waits commit exit words changed known e moved may numbered have off walked =
       let x = walk_fits (exit_fits known leave && sources_fit site.sources known) (record known { ended = true }) (λ behind. walk site.sources behind program) (opened site.sources known (Leave leave) program off walked) in
       let none = nothing_behind site.sources (record known { ended = true }) program refl x.1 in
       let same = same_Some leave exit e in
-      subst (λ (rest : List Micro). Shape site changed codes (addresses_of site.after (Leave leave ∷ rest)) (59 + commit_count commit) (end_lines site homes commit exit words)) (sym none)
-      (subst (λ (exit' : Exit). Shape site changed codes (exit_addresses site.after leave ++ []) (59 + commit_count commit) (end_lines site homes commit exit' words)) same
-      (subst (λ addresses. Shape site changed codes addresses (59 + commit_count commit) (end_lines site homes commit leave words)) (sym (append-nil (exit_addresses site.after leave)))
-      (end_shape homes are commit leave words changed moved (subst (λ (exit' : Exit). may_end site homes commit exit' ≡ true) (sym same) may) numbered have.0)))
-  ending_shape (Probe place count write ∷ program) homes are commit exit words changed known e moved may numbered have off walked = absurd (cc e)
-  ending_shape (Refuse when ∷ program) homes are commit exit words changed known e moved may numbered have off walked = absurd (cc e)
-  ending_shape (Read to place count ∷ program) homes are commit exit words changed known e moved may numbered have off walked = absurd (cc e)
-  ending_shape (Write place count source ∷ program) homes are commit exit words changed known e moved may numbered have off walked = absurd (cc e)
-  ending_shape (Locked to place kind source ∷ program) homes are commit exit words changed known e moved may numbered have off walked = absurd (cc e)
-  ending_shape (Commit number source ∷ program) homes are commit exit words changed known e moved may numbered have off walked = absurd (cc e)
-  ending_shape (SetPsw source ∷ program) homes are commit exit words changed known e moved may numbered have off walked = absurd (cc e)
+      subst (λ (rest : List Micro). Shape site changed codes (addresses_of site.after (Leave leave ∷ rest)) (59 + commit_count commit + length (waiting_words homes.waiting)) (end_lines site homes commit exit words)) (sym none)
+      (subst (λ (exit' : Exit). Shape site changed codes (exit_addresses site.after leave ++ []) (59 + commit_count commit + length (waiting_words homes.waiting)) (end_lines site homes commit exit' words)) same
+      (subst (λ addresses. Shape site changed codes addresses (59 + commit_count commit + length (waiting_words homes.waiting)) (end_lines site homes commit leave words)) (sym (append-nil (exit_addresses site.after leave)))
+      (end_shape homes are waits commit leave words changed moved (subst (λ (exit' : Exit). may_end site homes commit exit' ≡ true) (sym same) may) numbered have.0)))
+  ending_shape (Probe place count write ∷ program) homes are waits commit exit words changed known e moved may numbered have off walked = absurd (cc e)
+  ending_shape (Refuse when ∷ program) homes are waits commit exit words changed known e moved may numbered have off walked = absurd (cc e)
+  ending_shape (Read to place count ∷ program) homes are waits commit exit words changed known e moved may numbered have off walked = absurd (cc e)
+  ending_shape (Write place count source ∷ program) homes are waits commit exit words changed known e moved may numbered have off walked = absurd (cc e)
+  ending_shape (Locked to place kind source ∷ program) homes are waits commit exit words changed known e moved may numbered have off walked = absurd (cc e)
+  ending_shape (Commit number source ∷ program) homes are waits commit exit words changed known e moved may numbered have off walked = absurd (cc e)
+  ending_shape (SetPsw source ∷ program) homes are waits commit exit words changed known e moved may numbered have off walked = absurd (cc e)
 
   -- ---- the program
-  abbrev ShapeOf : Bool → List Micro → List Line → Type 0
-  ShapeOf changed program lines = Shape site changed codes (addresses_of site.after program) (program_words site.sources program + 59) lines
+  abbrev ShapeOf : Bool → Homes → List Micro → List Line → Type 0
+  ShapeOf changed homes program lines = Shape site changed codes (addresses_of site.after program) (program_words site.sources program + 59 + length (waiting_words homes.waiting)) lines
 
   weaker : (changed : Bool) (addresses : List ℕ) (n m : ℕ) (lines : List Line) → n ≤ m → Shape site changed codes addresses n lines → Shape site changed codes addresses m lines
   weaker changed addresses n m lines le shape = let short = shape.short in record { each = shape.each; kept = shape.kept; goes = shape.goes; writes = shape.writes; short = omega arith }
 
-  pub direct_shape : (program : List Micro) (homes : Homes) → AreHomes homes → (lines : List Line) (changed : Bool) (known : Known) → direct_lines site codes homes program ≡ Some lines → AllHaveWords site.sources program
-      → known.ended ≡ false → is_ended (walk site.sources known program) ≡ true → ShapeOf changed program lines
+  pub direct_shape : (program : List Micro) (homes : Homes) → AreHomes homes → Waiting homes → (lines : List Line) (changed : Bool) (known : Known) → direct_lines site codes homes program ≡ Some lines → AllHaveWords site.sources program
+      → known.ended ≡ false → is_ended (walk site.sources known program) ≡ true → ShapeOf changed homes program lines
   unfolding step
-  direct_shape [] homes are lines changed known e have off walked = absurd (cc e)
-  direct_shape (Compute to op size a b ∷ program) homes are lines changed known e have off walked =
+  direct_shape [] homes are waits lines changed known e have off walked = absurd (cc e)
+  direct_shape (Compute to op size a b ∷ program) homes are waits lines changed known e have off walked =
       let behind = behind_write to (holding_of (leaves_longword (Compute to op size a b))) known in
       let x = walk_fits (computation_fits known to op a b) behind (λ behind. walk site.sources behind program) (opened site.sources known (Compute to op size a b) program off walked) in
       let off' = (write_changes to (holding_of (leaves_longword (Compute to op size a b))) known).ended ∙ off in
       let c = chained (Homes × List AlphaInstr) (List Line) (λ (step : Homes × List AlphaInstr). option_map (λ (lines : List Line). map plain step.1 ++ lines) (direct_lines site codes step.0 program)) (direct_step site.sources homes to op size a b program) lines e in
       let m = mapped (List Line) (List Line) (λ (lines : List Line). map plain c.found.1 ++ lines) (direct_lines site codes c.found.0 program) lines c.onward in
-      subst (λ (ls : List Line). ShapeOf changed (Compute to op size a b ∷ program) ls) m.whole
-      (by c.found m.found m.is (λ homes' are' is'. direct_shape program homes' are' m.found changed behind is' have.1 off' x.1)
+      subst (λ (ls : List Line). ShapeOf changed homes (Compute to op size a b ∷ program) ls) m.whole
+      (by c.found m.found m.is (λ homes' are' waits' is'. direct_shape program homes' are' waits' m.found changed behind is' have.1 off' x.1)
       (is_left_out site.sources (Compute to op size a b) program) refl (stepped site homes to op size a b program c.found (is_left_out site.sources (Compute to op size a b) program) refl c.is))
     where
-      by : (step : Homes × List AlphaInstr) (rest : List Line) → direct_lines site codes step.0 program ≡ Some rest
-          → ((homes' : Homes) → AreHomes homes' → direct_lines site codes homes' program ≡ Some rest → ShapeOf changed program rest)
-          → (out : Bool) → is_left_out site.sources (Compute to op size a b) program ≡ out → Stepped site homes to op size a b program step out
-          → Shape site changed codes (addresses_of site.after program) ((if out then 0 else count_of (Compute to op size a b)) + program_words site.sources program + 59) (map plain step.1 ++ rest)
-      by step rest is shape true out s =
-          let behind = shape homes are (subst (λ h. direct_lines site codes h program ≡ Some rest) s.homes_then is) in
+      homes_then : Homes
+      homes_then = with_home to (new_home homes to op size a b) homes
+
+      same_waits : (with_home to (new_home homes to op size a b) homes).waiting ≡ homes.waiting
+      same_waits = waits_same to (new_home homes to op size a b) homes
+
+      by_words : (rest : List Line) → ((homes' : Homes) → AreHomes homes' → Waiting homes' → direct_lines site codes homes' program ≡ Some rest → ShapeOf changed homes' program rest)
+          → AreHomes homes_then → (target : IsTarget (21 + to)) → IsArgument a → (is_unary op ≡ false → IsArgument b) → (not (is_quad size) || is_some (made homes to op size a b)) ≡ true
+          → (o : Option ℕ) → copied homes to op size a ≡ o → (q : Option AlphaInstr) → made homes to op size a b ≡ q
+          → direct_lines site codes (step_by o q homes.waiting homes_then (direct_code homes to op size a b)).0 program ≡ Some rest
+          → Shape site changed codes (addresses_of site.after program) (count_of (Compute to op size a b) + program_words site.sources program + 59 + length (waiting_words homes.waiting)) (map plain (step_by o q homes.waiting homes_then (direct_code homes to op size a b)).1 ++ rest)
+      by_words rest shape are' target a_is b_is either (Some r) e q f is =
+          let waiting : Waiting homes_then = record {
+            encodable = subst (λ (o : Option AlphaInstr). All IsEncodable (waiting_words o)) (sym same_waits) waits.encodable;
+            silent = subst (λ (o : Option AlphaInstr). list_all is_silent (waiting_words o) ≡ true) (sym same_waits) waits.silent;
+            operate = subst (λ (o : Option AlphaInstr). list_all is_operate (waiting_words o) ≡ true) (sym same_waits) waits.operate;
+          } in
+          let behind = shape homes_then are' waiting is in
           let short = behind.short in
-          subst (λ (words : List AlphaInstr). Shape site changed codes (addresses_of site.after program) (0 + program_words site.sources program + 59) (map plain words ++ rest)) (sym s.words_then)
+          let same = ap (λ (o : Option AlphaInstr). length (waiting_words o)) same_waits in
+          record { each = behind.each; kept = behind.kept; goes = behind.goes; writes = behind.writes; short = omega arith }
+      by_words rest shape are' target a_is b_is either None e (Some word) f is =
+          let w = direct_words homes are to op size a b target a_is b_is either in
+          let code : direct_code homes to op size a b ≡ word ∷ [] = ap (λ (o : Option ℕ). code_by o (made homes to op size a b) (compared homes to op size a b) (compute_code op size (placed homes a) (placed homes b) (21 + to))) e
+          ∙ ap (λ (o : Option AlphaInstr). code_by None o (compared homes to op size a b) (compute_code op size (placed homes a) (placed homes b) (21 + to))) f in
+          let m = made_word homes to op size a b word f in
+          let waiting : Waiting (record homes_then { waiting = Some word }) = record {
+            encodable = subst (All IsEncodable) code w.encodable;
+            silent = subst (λ words. list_all is_silent words ≡ true) code w.silent;
+            operate = subst (λ (word : AlphaInstr). list_all is_operate (word ∷ []) ≡ true) (sym m.2.is) refl;
+          } in
+          let behind = shape (record homes_then { waiting = Some word }) (are'.0, are'.1, are'.2) waiting is in
+          let one = ap (λ (words : List AlphaInstr). length words) code in
+          let most = w.few in
+          let count = plain_length (waiting_words homes.waiting) in
+          silent_front site codes (addresses_of site.after program) changed (length (waiting_words homes.waiting)) (program_words site.sources program + 59 + 1) _ (waiting_words homes.waiting) rest
+          waits.encodable waits.silent (omega arith) (omega arith) behind
+      by_words rest shape are' target a_is b_is either None e None f is =
+          let w = direct_words homes are to op size a b target a_is b_is either in
+          let behind = shape (record homes_then { waiting = None }) (are'.0, are'.1, are'.2) (record { encodable = All-nil IsEncodable; silent = refl; operate = refl }) is in
+          let most = w.few in
+          let count = plain_length (waiting_words homes.waiting) in
+          let more = plain_length (direct_code homes to op size a b) in
+          subst (Shape site changed codes (addresses_of site.after program) (count_of (Compute to op size a b) + program_words site.sources program + 59 + length (waiting_words homes.waiting))) (sym (row_apart (waiting_words homes.waiting) (direct_code homes to op size a b) rest))
+          (silent_front site codes (addresses_of site.after program) changed (length (waiting_words homes.waiting)) (count_of (Compute to op size a b) + (program_words site.sources program + 59 + 0)) _ (waiting_words homes.waiting) (map plain (direct_code homes to op size a b) ++ rest)
+          waits.encodable waits.silent (omega arith) (omega arith)
+          (silent_front site codes (addresses_of site.after program) changed (count_of (Compute to op size a b)) (program_words site.sources program + 59 + 0) _ (direct_code homes to op size a b) rest
+          w.encodable w.silent (omega arith) (omega arith) behind))
+
+      by : (step : Homes × List AlphaInstr) (rest : List Line) → direct_lines site codes step.0 program ≡ Some rest
+          → ((homes' : Homes) → AreHomes homes' → Waiting homes' → direct_lines site codes homes' program ≡ Some rest → ShapeOf changed homes' program rest)
+          → (out : Bool) → is_left_out site.sources (Compute to op size a b) program ≡ out → Stepped site homes to op size a b program step out
+          → Shape site changed codes (addresses_of site.after program) ((if out then 0 else count_of (Compute to op size a b)) + program_words site.sources program + 59 + length (waiting_words homes.waiting)) (map plain step.1 ++ rest)
+      by step rest is shape true out s =
+          let behind = shape homes are waits (subst (λ (step : Homes × List AlphaInstr). direct_lines site codes step.0 program ≡ Some rest) s.is is) in
+          let short = behind.short in
+          subst (λ (step : Homes × List AlphaInstr). Shape site changed codes (addresses_of site.after program) (0 + program_words site.sources program + 59 + length (waiting_words homes.waiting)) (map plain step.1 ++ rest)) (sym s.is)
           (record { each = behind.each; kept = behind.kept; goes = behind.goes; writes = behind.writes; short = omega arith })
       by step rest is shape false out s =
           let has = have.0 out in
           let direct = all_three (not (is_quad size) || is_some (made homes to op size a b)) (not (is_select op)) (not (is_shared homes to)) (s.direct refl) in
-          let behind = shape (with_home to (new_home homes to op size a b) homes) (homes_are to (new_home homes to op size a b) homes (new_home_is homes are to op size a b has.1) are)
-          (subst (λ h. direct_lines site codes h program ≡ Some rest) s.homes_then is) in
-          let w = direct_words homes are to op size a b has.0 has.1 has.2 direct.0 in
-          let count = plain_length (direct_code homes to op size a b) in
-          let most = w.few in
-          subst (λ (words : List AlphaInstr). Shape site changed codes (addresses_of site.after program) (count_of (Compute to op size a b) + program_words site.sources program + 59) (map plain words ++ rest)) (sym s.words_then)
-          (silent_front site codes (addresses_of site.after program) changed (count_of (Compute to op size a b)) (program_words site.sources program + 59) _ (direct_code homes to op size a b) rest
-          w.encodable w.silent (omega arith) (omega arith) behind)
-  direct_shape (Commit number source ∷ program) homes are lines changed known e have off walked =
+          subst (λ (step : Homes × List AlphaInstr). Shape site changed codes (addresses_of site.after program) (count_of (Compute to op size a b) + program_words site.sources program + 59 + length (waiting_words homes.waiting)) (map plain step.1 ++ rest)) (sym s.is)
+          (by_words rest shape (homes_are to (new_home homes to op size a b) homes (new_home_is homes are to op size a b has.1) are) has.0 has.1 has.2 direct.0 (copied homes to op size a) refl (made homes to op size a b) refl
+          (subst (λ (step : Homes × List AlphaInstr). direct_lines site codes step.0 program ≡ Some rest) s.is is))
+  direct_shape (Commit number source ∷ program) homes are waits lines changed known e have off walked =
       let x = walk_fits (commit_fits known number source) (behind_commit number known) (λ behind. walk site.sources behind program) (opened site.sources known (Commit number source) program off walked) in
       let z = with_exit site codes (Some (number, source)) (Commit number source) program homes lines refl e in
       let end = z.2 in
-      subst (λ (ls : List Line). ShapeOf changed (Commit number source ∷ program) ls) end.whole
-      (weaker changed (addresses_of site.after program) 60 (program_words site.sources (Commit number source ∷ program) + 59) (end_lines site homes (Some (number, source)) z.0 end.words) (omega arith)
-      (ending_shape program homes are (Some (number, source)) z.0 end.words changed (behind_commit number known) z.1 end.moved end.may have.0.0 have.1 off x.1))
-  direct_shape (Codes n z v c ∷ program) homes are lines changed known e have off walked =
+      subst (λ (ls : List Line). ShapeOf changed homes (Commit number source ∷ program) ls) end.whole
+      (weaker changed (addresses_of site.after program) (60 + length (waiting_words homes.waiting)) (program_words site.sources (Commit number source ∷ program) + 59 + length (waiting_words homes.waiting)) (end_lines site homes (Some (number, source)) z.0 end.words) (omega arith)
+      (ending_shape program homes are waits (Some (number, source)) z.0 end.words changed (behind_commit number known) z.1 end.moved end.may have.0.0 have.1 off x.1))
+  direct_shape (Codes n z v c ∷ program) homes are waits lines changed known e have off walked =
       let x = walk_fits (codes_fit known n z v c) (record known { codes = true; changed = true }) (λ behind. walk site.sources behind program) (opened site.sources known (Codes n z v c) program off walked) in
       let y = with_exit site codes None (Codes n z v c) program homes lines refl e in
       let end = y.2 in
-      subst (λ (ls : List Line). ShapeOf changed (Codes n z v c ∷ program) ls) end.whole
-      (weaker changed (addresses_of site.after program) 59 (program_words site.sources (Codes n z v c ∷ program) + 59) (end_lines site homes None y.0 end.words) (omega arith)
-      (ending_shape program homes are None y.0 end.words changed (record known { codes = true; changed = true }) y.1 end.moved end.may tt have.1 off x.1))
-  direct_shape (Leave exit ∷ program) homes are lines changed known e have off walked =
+      subst (λ (ls : List Line). ShapeOf changed homes (Codes n z v c ∷ program) ls) end.whole
+      (weaker changed (addresses_of site.after program) (59 + 0 + length (waiting_words homes.waiting)) (program_words site.sources (Codes n z v c ∷ program) + 59 + length (waiting_words homes.waiting)) (end_lines site homes None y.0 end.words) (omega arith)
+      (ending_shape program homes are waits None y.0 end.words changed (record known { codes = true; changed = true }) y.1 end.moved end.may tt have.1 off x.1))
+  direct_shape (Leave exit ∷ program) homes are waits lines changed known e have off walked =
       let end = ends_with site codes (Leave exit) program homes lines None exit refl e in
-      subst (λ (ls : List Line). ShapeOf changed (Leave exit ∷ program) ls) end.whole
-      (weaker changed (addresses_of site.after (Leave exit ∷ program)) 59 (program_words site.sources (Leave exit ∷ program) + 59) (end_lines site homes None exit end.words) (omega arith)
-      (ending_shape (Leave exit ∷ program) homes are None exit end.words changed known refl end.moved end.may tt have off walked))
-  direct_shape (Probe place count write ∷ program) homes are lines changed known e have off walked = absurd (cc e)
-  direct_shape (Refuse when ∷ program) homes are lines changed known e have off walked = absurd (cc e)
-  direct_shape (Read to place count ∷ program) homes are lines changed known e have off walked = absurd (cc e)
-  direct_shape (Write place count source ∷ program) homes are lines changed known e have off walked = absurd (cc e)
-  direct_shape (Locked to place kind source ∷ program) homes are lines changed known e have off walked = absurd (cc e)
-  direct_shape (SetPsw source ∷ program) homes are lines changed known e have off walked = absurd (cc e)
+      subst (λ (ls : List Line). ShapeOf changed homes (Leave exit ∷ program) ls) end.whole
+      (weaker changed (addresses_of site.after (Leave exit ∷ program)) (59 + 0 + length (waiting_words homes.waiting)) (program_words site.sources (Leave exit ∷ program) + 59 + length (waiting_words homes.waiting)) (end_lines site homes None exit end.words) (omega arith)
+      (ending_shape (Leave exit ∷ program) homes are waits None exit end.words changed known refl end.moved end.may tt have off walked))
+  direct_shape (Probe place count write ∷ program) homes are waits lines changed known e have off walked = absurd (cc e)
+  direct_shape (Refuse when ∷ program) homes are waits lines changed known e have off walked = absurd (cc e)
+  direct_shape (Read to place count ∷ program) homes are waits lines changed known e have off walked = absurd (cc e)
+  direct_shape (Write place count source ∷ program) homes are waits lines changed known e have off walked = absurd (cc e)
+  direct_shape (Locked to place kind source ∷ program) homes are waits lines changed known e have off walked = absurd (cc e)
+  direct_shape (SetPsw source ∷ program) homes are waits lines changed known e have off walked = absurd (cc e)

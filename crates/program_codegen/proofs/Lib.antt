@@ -47,6 +47,7 @@ pub mod Beginning
 pub mod HomeNumbers
 pub mod HomeCodes
 pub mod HomeShapes
+pub mod HomeSparing
 pub mod HomeHolding
 pub mod HomeComputing
 pub mod HomeEnding

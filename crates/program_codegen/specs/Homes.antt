@@ -26,6 +26,7 @@ use Rattle.micro_ops.specs.declared.program.MicroOp.{MicroOp}
 use Rattle.micro_ops.specs.declared.program.MicroOp.TheVariants.{Add, Sub, And, Or, Xor, AndNot, SignExtend, Equal, Less, LessUnsigned}
 use Rattle.compute_sequences.specs.Words.{compute_code, is_constant, is_moved, is_short}
 use Rattle.program_codegen.specs.declared.direct.Raised.{Raised}
+use Rattle.alpha_meaning.specs.Loops.{written}
 use Rattle.program_codegen.specs.declared.homes.Homes.{Homes}
 use Rattle.program_codegen.specs.declared.lines.Line.{Line}
 use Rattle.program_codegen.specs.declared.points.Site.{Site}
@@ -33,9 +34,9 @@ use Rattle.program_codegen.specs.Words.{plain, holder, trap_lines, departing}
 
 -- ---- homes
 -- Temporaries 0 to 2 may be the low longword of a register that is extended with its sign: of a VAX register, or of one of
--- their own. All others stand in their own registers, exactly.
+-- their own. All others stand in their own registers, exactly. The word that makes the result may wait.
 abbrev pub no_homes : Homes
-no_homes = record { first = None; second = None; result = None }
+no_homes = record { first = None; second = None; result = None; waiting = None }
 
 abbrev pub home_of : Homes → (temp : ℕ) → Option ℕ
 home_of homes temp =
@@ -186,6 +187,22 @@ abbrev pub direct_code : Homes → (to : ℕ) → MicroOp → Size → (a b : Ar
 direct_code homes to op size a b =
     code_by (copied homes to op size a) (made homes to op size a b) (compared homes to op size a b)
     (compute_code (extending (is_long_constant to op size a) op) size (placed homes a) (placed homes b) (holder to))
+
+-- A word that makes the result waits until another computation has words, or up to the end.
+abbrev pub waiting_words : Option AlphaInstr → List AlphaInstr
+waiting_words None = []
+waiting_words (Some word) = word ∷ []
+
+abbrev pub step_by : (copied : Option ℕ) → (made waiting : Option AlphaInstr) → Homes → (words : List AlphaInstr) → Homes × List AlphaInstr
+step_by (Some register) made waiting homes words = (homes, [])
+step_by None (Some word) waiting homes words = (record homes { waiting = Some word }, waiting_words waiting)
+step_by None None waiting homes words = (record homes { waiting = None }, waiting_words waiting ++ words)
+
+-- where the temporaries stand behind a computation, and the words that stand up to there
+abbrev pub direct_by : Homes → (to : ℕ) → MicroOp → Size → (a b : Arg) → Homes × List AlphaInstr
+direct_by homes to op size a b =
+    step_by (copied homes to op size a) (made homes to op size a b) homes.waiting
+    (with_home to (new_home homes to op size a b) homes) (direct_code homes to op size a b)
 
 -- ---- the words that leave the codes
 -- the registers whose low bytes are the operands of a rule
@@ -369,9 +386,80 @@ commit_words homes None = []
 commit_words homes (Some commit) =
     Operate row.Addl (unwrap_or (home_of homes commit.1) (holder commit.1)) (seconds.Literal 0) commit.0 ∷ []
 
+-- ---- the result
+-- Where nothing but copies of the result is wanted, each of them is made where it goes, and the result has no word of its own.
+abbrev pub second_reads : Second → (register : ℕ) → Bool
+second_reads (seconds.Register number) register = number == register
+second_reads (seconds.Literal value) register = false
+
+abbrev pub word_reads : AlphaInstr → (register : ℕ) → Bool
+word_reads (Operate op first second to) register = (first == register) || second_reads second register
+word_reads word register = true
+
+abbrev pub result_place : ℕ
+result_place = holder 2
+
+-- it makes the result, whatever that register held
+abbrev pub is_result : AlphaInstr → Bool
+is_result (Operate op first second to) = to == result_place && not (is_choice op)
+is_result word = false
+
+abbrev pub copies_result : AlphaInstr → Bool
+copies_result (Operate row.Bis first (seconds.Register register) to) = first == ZERO && register == result_place
+copies_result word = false
+
+-- the same word, but for the register that it writes
+abbrev pub into : (to : ℕ) → AlphaInstr → AlphaInstr
+into to (Operate op first second place) = Operate op first second to
+into to word = word
+
+-- a word that leaves what makes the result as it is, and the result
+abbrev pub leaves_result : (made word : AlphaInstr) → Bool
+leaves_result made word = not (word_reads made (written word)) && not (written word == result_place)
+
+-- a word that copies the result makes it, and no other may read it
+abbrev pub spared_word : (made word : AlphaInstr) → Option AlphaInstr
+spared_word made word =
+    if not (leaves_result made word) then None
+    else if copies_result word then Some (into (written word) made)
+    else if word_reads word result_place then None else Some word
+
+abbrev pub spared_words : (made : AlphaInstr) → List AlphaInstr → Option (List AlphaInstr)
+spared_words made [] = Some []
+spared_words made (word ∷ words) =
+    option_and_then (λ spared. option_map (λ rest. spared ∷ rest) (spared_words made words)) (spared_word made word)
+
+abbrev pub commits_result : Option (ℕ × ℕ) → Bool
+commits_result None = true
+commits_result (Some commit) = commit.1 == 2
+
+-- it goes on by no temporary
+abbrev pub goes_alone : Exit → Bool
+goes_alone Next = true
+goes_alone (Fixed address) = true
+goes_alone exit = false
+
+abbrev pub may_spare : Homes → (commit : Option (ℕ × ℕ)) → Exit → (made : AlphaInstr) → Bool
+may_spare homes commit exit made = is_result made && stands_in homes.result result_place && commits_result commit && goes_alone exit
+
+abbrev pub made_commit : (made : AlphaInstr) → Option (ℕ × ℕ) → List AlphaInstr
+made_commit made None = []
+made_commit made (Some commit) = into commit.0 made ∷ []
+
+abbrev pub spared : Homes → (commit : Option (ℕ × ℕ)) → Exit → (codes : List AlphaInstr) → (made : AlphaInstr) → Option (List AlphaInstr)
+spared homes commit exit codes made =
+    if may_spare homes commit exit made
+    then option_map (λ (words : List AlphaInstr). words ++ made_commit made commit) (spared_words made codes)
+    else None
+
+-- the words up to the one that writes the register
+abbrev pub end_words : (waiting : Option AlphaInstr) → Homes → (commit : Option (ℕ × ℕ)) → Exit → (codes : List AlphaInstr) → List AlphaInstr
+end_words waiting homes commit exit codes =
+    unwrap_or (option_and_then (spared homes commit exit codes) waiting) (waiting_words waiting ++ (codes ++ commit_words homes commit))
+
 abbrev pub end_lines : Site → Homes → (commit : Option (ℕ × ℕ)) → Exit → (codes : List AlphaInstr) → List Line
 end_lines site homes commit exit codes =
-    map plain codes ++ (map plain (commit_words homes commit) ++ (trap_lines site exit ++ departing site exit))
+    map plain (end_words homes.waiting homes commit exit codes) ++ (trap_lines site exit ++ departing site exit)
 
 abbrev pub may_end : Site → Homes → (commit : Option (ℕ × ℕ)) → Exit → Bool
 may_end site homes commit exit = commit_stays commit && exit_stays homes exit && are_short_rules site.behind
@@ -393,7 +481,7 @@ direct_step sources homes to op size a b behind =
     if is_left_out sources (Compute to op size a b) behind
     then Some (homes, [])
     else if is_direct homes to op size a b
-    then Some (with_home to (new_home homes to op size a b) homes, direct_code homes to op size a b)
+    then Some (direct_by homes to op size a b)
     else None
 
 abbrev pub is_computation : Micro → Bool

@@ -1,7 +1,7 @@
 // The words of programs that make no reference.
 ghost use Rattle.std.specs.Prelude.{◌≡◌, ◌++◌, ◌∷◌, IfOk, IfSome, OnOk, MatchOption, None, Some, map, true};
 ghost use Rattle.program_codegen.specs.Words.{plain};
-ghost use Rattle.program_codegen.specs.Homes.{is_operand, is_operand_second, second_home, is_choice, unmoved, moved_operand, moved_both, moved_first, moved_by, is_raised, raised_at, raised_second, with_raised, have_homes, raised_home, compared_raised, moved_word, moved_step, moved_words, is_short_rule, are_short_rules, is_wordless, exit_of, exit_behind, with_commit, end_at, exit_stays, commit_stays, commit_words, may_end, direct_end, ended_lines, is_computation, homes_at, step_at, words_at, direct_lines, no_homes, AreHomes};
+ghost use Rattle.program_codegen.specs.Homes.{is_operand, is_operand_second, second_home, is_choice, unmoved, moved_operand, moved_both, moved_first, moved_by, is_raised, raised_at, raised_second, with_raised, have_homes, raised_home, compared_raised, moved_word, moved_step, moved_words, is_short_rule, are_short_rules, is_wordless, exit_of, exit_behind, with_commit, end_at, exit_stays, commit_stays, commit_words, may_end, direct_end, ended_lines, is_computation, homes_at, step_at, words_at, direct_lines, no_homes, AreHomes, end_words};
 ghost use Rattle.program_codegen.specs.Programs.{AllFitWords, HasWords, IsExit, IsRanged, IsRangedExit, RangedToLeave, is_narrow};
 
 use crate::homes::{Homes, NO_HOMES, home_at, home_of, is_direct, push_direct};
@@ -9,6 +9,7 @@ use crate::leaving::{push_departing, push_trap};
 use crate::lines::{Line, holder, push_words};
 use crate::points::Site;
 use alpha_encode::registers::{CARRY_FIRST, CARRY_SECOND, RULE_FIRST, RULE_SECOND, TEMPORARIES};
+use crate::spared::end_words;
 use alpha_encode::{AlphaInstr, OperateOp, Second, operate, operate_by};
 use exception_records::{CodeRule, Rules};
 use micro_ops::{CodeSources, Exit, Micro, is_left_out};
@@ -42,7 +43,7 @@ const NONE_RAISED: Raised = Raised {
 };
 
 /// The register that is written, and the temporary that it is written from.
-type Commit = Option<(u8, u8)>;
+pub(crate) type Commit = Option<(u8, u8)>;
 
 /// Whether the low bytes of a register are an operand of a rule.
 fn is_operand(register: u8) -> bool
@@ -72,7 +73,7 @@ fn second_home(homes: Homes, second: Second) -> Option<u8>
     }
 }
 
-fn is_choice(op: OperateOp) -> bool
+pub(crate) fn is_choice(op: OperateOp) -> bool
     ensures { result ≡ is_choice op }
 {
     matches!(op, OperateOp::Cmoveq | OperateOp::Cmovne)
@@ -385,18 +386,6 @@ fn may_end(site: Site, homes: Homes, commit: Commit, exit: Exit) -> bool
     commit_stays(commit) && exit_stays(homes, exit) && are_short_rules(site.behind)
 }
 
-/// The word that writes a register.
-fn push_commit(lines: &mut Vec<Line>, homes: Homes, commit: Commit) -> Result<(), WantOfMemory>
-    requires { commit_stays commit ≡ true }
-    ensures { OnOk result (lines.new.items ≡ lines.old.items ++ map plain (commit_words homes commit)) }
-{
-    if let Some((register, from)) = commit {
-        let place = home_of(homes, from).unwrap_or(holder(from));
-        push_words(lines, &[operate_by(OperateOp::Addl, place, 0, register)])?;
-    }
-    Ok(())
-}
-
 /// The words for the codes, the register that is written, the trap on overflow, and the exits.
 fn direct_end(
     alloc: Global,
@@ -416,9 +405,9 @@ fn direct_end(
     let Some(moved) = moved_words(alloc, homes, codes)? else {
         return Ok(None);
     };
+    let words = end_words(alloc, homes, commit, exit, &moved)?;
     let mut lines = Vec::new(alloc);
-    push_words(&mut lines, &moved)?;
-    push_commit(&mut lines, homes, commit)?;
+    push_words(&mut lines, &words)?;
     push_trap(alloc, &mut lines, site, exit)?;
     push_departing(&mut lines, site, exit)?;
     Ok(Some(lines))

@@ -2,7 +2,7 @@
 ghost use Rattle.std.specs.Prelude.{◌≡◌, ◌++◌, ◌≤◌, OnOk, IfOk, false, map};
 ghost use Rattle.compute_sequences.specs.Registers.{IsArgument, IsTarget};
 ghost use Rattle.micro_ops.specs.Uses.{is_unary};
-ghost use Rattle.program_codegen.specs.Homes.{AreHomes, home_of, with_home, home_at, stands_in, is_shared, argument_in, standing_in, placed, extended_register, extended_second, extended_first, long_operation, comparison, joined_word, one_word, is_copying, copied, is_logical, made_size, made, compared, is_home_constant, is_long_constant, extending, new_home, direct_code, is_direct};
+ghost use Rattle.program_codegen.specs.Homes.{AreHomes, home_of, with_home, home_at, stands_in, is_shared, argument_in, standing_in, placed, extended_register, extended_second, extended_first, long_operation, comparison, joined_word, one_word, is_copying, copied, is_logical, made_size, made, compared, is_home_constant, is_long_constant, extending, new_home, direct_code, is_direct, is_short_constant, waiting_words, direct_by};
 ghost use Rattle.program_codegen.specs.Words.{holder, plain};
 
 use crate::lines::{Line, holder, push_words};
@@ -10,7 +10,7 @@ use alpha_encode::registers::{TEMPORARIES, ZERO};
 use alpha_encode::{AlphaInstr, OperateOp, Second};
 use compute_sequences::compute_words;
 use micro_ops::{Arg, MicroOp};
-use std::alloc::Global;
+use std::alloc::{AllocError, Global};
 use vax_form::{Size, WantOfMemory};
 
 /// How many registers of the VAX a program reads.
@@ -31,12 +31,15 @@ pub(crate) struct Homes {
     pub(crate) first: Option<u8>,
     pub(crate) second: Option<u8>,
     pub(crate) result: Option<u8>,
+    /// The word that makes the result, where that waits.
+    pub(crate) waiting: Option<AlphaInstr>,
 }
 
 pub(crate) const NO_HOMES: Homes = Homes {
     first: None,
     second: None,
     result: None,
+    waiting: None,
 };
 
 pub(crate) fn home_of(homes: Homes, temp: u8) -> Option<u8>
@@ -85,7 +88,7 @@ pub(crate) fn home_at(homes: Homes, register: u8) -> Option<u8>
     }
 }
 
-fn stands_in(home: Option<u8>, register: u8) -> bool
+pub(crate) fn stands_in(home: Option<u8>, register: u8) -> bool
     ensures { result ≡ stands_in home register }
 {
     match home {
@@ -327,7 +330,21 @@ pub(crate) fn is_direct(homes: Homes, to: u8, op: MicroOp, size: Size, a: Arg, b
         && !is_shared(homes, to)
 }
 
-/// The words of a computation, of which a copy has none, and where its temporary stands behind them.
+/// The word that waits.
+pub(crate) fn push_waiting(
+    lines: &mut Vec<Line>,
+    waiting: Option<AlphaInstr>,
+) -> Result<(), AllocError>
+    ensures { OnOk result (lines.new.items ≡ lines.old.items ++ map plain (waiting_words waiting)) }
+{
+    match waiting {
+        Some(word) => push_words(lines, &[word]),
+        None => Ok(()),
+    }
+}
+
+/// The words up to a computation, of which a copy has none and one that makes the result waits, and where its temporary stands
+/// behind them.
 pub(crate) fn push_direct(
     alloc: Global,
     lines: &mut Vec<Line>,
@@ -342,16 +359,20 @@ pub(crate) fn push_direct(
     requires target { IsTarget (holder to) }
     requires first { IsArgument a }
     requires second { is_unary op ≡ false → IsArgument b }
-    ensures lines { OnOk result (lines.new.items ≡ lines.old.items ++ map plain (direct_code homes to op size a b)) }
-    ensures homes { IfOk result (λ now. now ≡ with_home to (new_home homes to op size a b) homes) }
+    ensures lines { OnOk result (lines.new.items ≡ lines.old.items ++ map plain (direct_by homes to op size a b).1) }
+    ensures homes { IfOk result (λ now. now ≡ (direct_by homes to op size a b).0) }
     ensures are { IfOk result AreHomes }
 {
     if let Some(register) = copied(homes, to, op, size, a) {
         return Ok(with_home(to, Some(register), homes));
     }
+    push_waiting(lines, homes.waiting)?;
     if let Some(word) = made(homes, to, op, size, a, b) {
-        push_words(lines, &[word])?;
-        return Ok(with_home(to, Some(holder(to)), homes));
+        let now = with_home(to, Some(holder(to)), homes);
+        return Ok(Homes {
+            waiting: Some(word),
+            ..now
+        });
     }
     let home = if is_home_constant(to, op, size, a) {
         Some(holder(to))
@@ -371,5 +392,9 @@ pub(crate) fn push_direct(
         )?;
         push_words(lines, &words)?;
     }
-    Ok(with_home(to, home, homes))
+    let now = with_home(to, home, homes);
+    Ok(Homes {
+        waiting: None,
+        ..now
+    })
 }

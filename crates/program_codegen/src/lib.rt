@@ -13,6 +13,7 @@ mod leaving;
 mod lines;
 mod operations;
 mod points;
+mod spared;
 mod strings;
 
 pub use blocks::block;
