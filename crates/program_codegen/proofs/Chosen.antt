@@ -1,6 +1,6 @@
 -- The lines that are chosen for a program.
-use Rattle.std.proofs.Common.{◌≡◌, ℕ, ◌+◌, ◌^◌, ◌<◌, ◌≤◌, refl, subst, arith, List, [], ◌∷◌, ◌++◌, length, map, Option, Some, None, Bool, true, false}
-use Rattle.std.specs.Prelude.{◌==◌, All, option_map, option_and_then, unwrap_or, if◌then◌else◌}
+use Rattle.std.proofs.Common.{◌≡◌, ℕ, ◌+◌, ◌^◌, ◌<◌, ◌≤◌, refl, subst, arith, List, [], ◌∷◌, ◌++◌, length, map, Option, Some, None, Bool, true, false, inl, inr}
+use Rattle.std.specs.Prelude.{◌⊎◌, ◌==◌, All, option_map, option_and_then, unwrap_or, if◌then◌else◌}
 use Rattle.std.specs.List.{list_all}
 use Rattle.std.proofs.lemmas.List.Elements.{All-nil}
 use Rattle.vax_form.specs.Ranges.{IsInRange}
@@ -26,14 +26,16 @@ use Rattle.program_codegen.specs.declared.homes.Homes.{Homes}
 use Rattle.program_codegen.specs.declared.lines.Line.{Line}
 use Rattle.program_codegen.specs.declared.points.Site.{Site}
 use Rattle.program_codegen.specs.Blocks.{block_lines, chosen_lines}
-use Rattle.program_codegen.specs.Homes.{direct_end, direct_lines, direct_step, end_at, end_words, home_of, no_homes}
+use Rattle.program_codegen.specs.Homes.{choice_lines, direct_end, direct_lines, direct_step, end_at, end_words, home_of, next_exit, no_homes, tested_at, tested_exit, waiting_words}
 use Rattle.program_codegen.specs.Programs.{AllHaveWords, KeepsTogether, LeavesReady, ReadsReady}
 use Rattle.program_codegen.specs.Promises.{BeginsBy}
 use Rattle.program_codegen.specs.Words.{block_of, departing, plain, program_lines, trap_lines}
 use Rattle.program_codegen.proofs.Beginning.{Starts, before, depart, lines_begin, program_starts, row, trap}
 use Rattle.program_codegen.proofs.Following.{follows, lines_some}
 use Rattle.program_codegen.proofs.Fronts.{Shape}
-use Rattle.program_codegen.proofs.HomeFollowing.{chained, direct_follows, direct_some, ended, mapped}
+use Rattle.program_codegen.proofs.HomeFollowing.{direct_follows, direct_some, ended}
+use Rattle.program_codegen.proofs.HomeSomes.{chained, first_is, mapped}
+use Rattle.program_codegen.proofs.HomeTesting.{tested}
 use Rattle.program_codegen.proofs.HomeShaping.{direct_shape}
 use Rattle.program_codegen.proofs.Holding.{Holds, LeavingFollows, Setting, ends, found, tree}
 use Rattle.program_codegen.proofs.Shaping.{program_shape}
@@ -53,10 +55,18 @@ module _ (site : Site) (codes : List AlphaInstr) where
 
   direct_starts : (program : List Micro) (homes : Homes) (lines : List Line) → direct_lines site codes homes program ≡ Some lines → Starts site lines
   direct_starts [] homes lines e = absurd (cc e)
-  direct_starts (Compute to op size a b ∷ program) homes lines e =
-      let c = chained (Homes × List AlphaInstr) (List Line) (λ (step : Homes × List AlphaInstr). option_map (λ (lines : List Line). map plain step.1 ++ lines) (direct_lines site codes step.0 program)) (direct_step site.sources homes to op size a b program) lines e in
-      let m = mapped (List Line) (List Line) (λ (lines : List Line). map plain c.found.1 ++ lines) (direct_lines site codes c.found.0 program) lines c.onward in
-      subst (Starts site) m.whole (before site (map plain c.found.1) m.found (row site c.found.1) (direct_starts program c.found.0 m.found m.is))
+  direct_starts (Compute to op size a b ∷ program) homes lines e = by (λ homes' rest is. direct_starts program homes' rest is) (first_is (tested_at site codes homes (Compute to op size a b) program) (option_and_then (λ (step : Homes × List AlphaInstr). option_map (λ (lines : List Line). map plain step.1 ++ lines) (direct_lines site codes step.0 program)) (direct_step site.sources homes to op size a b program)) lines e)
+    where
+      by : ((homes' : Homes) (rest : List Line) → direct_lines site codes homes' program ≡ Some rest → Starts site rest)
+          → ((tested_at site codes homes (Compute to op size a b) program) ≡ Some lines) ⊎ (((tested_at site codes homes (Compute to op size a b) program) ≡ None) × ((option_and_then (λ (step : Homes × List AlphaInstr). option_map (λ (lines : List Line). map plain step.1 ++ lines) (direct_lines site codes step.0 program)) (direct_step site.sources homes to op size a b program)) ≡ Some lines)) → Starts site lines
+      by onward (inl tests) =
+          let c = chained Exit (List Line) (tested_exit site codes homes to op size a b) (next_exit program) lines tests in
+          let s = tested site codes homes to op size a b c.found lines c.onward in
+          subst (Starts site) s.whole (before site (map plain (waiting_words homes.waiting)) (choice_lines s.test s.chosen s.other) (row site (waiting_words homes.waiting)) refl)
+      by onward (inr x) =
+          let c = chained (Homes × List AlphaInstr) (List Line) (λ (step : Homes × List AlphaInstr). option_map (λ (lines : List Line). map plain step.1 ++ lines) (direct_lines site codes step.0 program)) (direct_step site.sources homes to op size a b program) lines x.1 in
+          let m = mapped (List Line) (List Line) (λ (lines : List Line). map plain c.found.1 ++ lines) (direct_lines site codes c.found.0 program) lines c.onward in
+          subst (Starts site) m.whole (before site (map plain c.found.1) m.found (row site c.found.1) (onward c.found.0 m.found m.is))
   direct_starts (Commit number source ∷ program) homes lines e = end_starts (Commit number source) program homes lines e
   direct_starts (Codes n z v c ∷ program) homes lines e = end_starts (Codes n z v c) program homes lines e
   direct_starts (Leave exit ∷ program) homes lines e = end_starts (Leave exit) program homes lines e

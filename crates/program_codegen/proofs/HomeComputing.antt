@@ -477,7 +477,7 @@ module _ (p : Placement) (site : Site) (known : Known) (homes : Homes) (standing
   constant_value op size (arguments.Register number) b x held moves short = absurd (cc short)
   constant_value op size (arguments.Flag flag) b x held moves short = absurd (cc short)
 
-  computes_words : (to : ℕ) (op : MicroOp) (size : Size) (a b : Arg) (g : Regs) → IsTarget (holder to) → IsArgument a → argument_fits known a ≡ true → Ready a
+  pub computes_words : (to : ℕ) (op : MicroOp) (size : Size) (a b : Arg) (g : Regs) → IsTarget (holder to) → IsArgument a → argument_fits known a ≡ true → Ready a
       → (is_unary op ≡ false → IsArgument b × (argument_fits known b ≡ true) × Ready b) → is_quad size ≡ false → is_select op ≡ false → is_shared homes to ≡ false
       → copied homes to op size a ≡ None → made homes to op size a b ≡ None → is_long_constant to op size a ≡ false
       → (done : Unit {0}) → Leaves (IsComputed op size (placed homes a) (placed homes b) (holder to) regs) (holder to) regs done g → After to op size a b g
@@ -603,6 +603,40 @@ module _ (p : Placement) (site : Site) (known : Known) (homes : Homes) (standing
   right true f e h = absurd (cc e)
   right false f e h = h
 
+  takes_by : (first second unary : Bool) → first ≡ true → (first || (not unary && second)) ≡ true
+  takes_by true second unary e = refl
+  takes_by false second unary e = absurd (cc e)
+
+  takes_other : (first second unary : Bool) → unary ≡ false → second ≡ true → (first || (not unary && second)) ≡ true
+  takes_other true second unary u e = refl
+  takes_other false true false u e = refl
+  takes_other false false unary u e = absurd (cc e)
+  takes_other false true true u e = absurd (cc u)
+
+  -- What a computation leaves that is given its value: any registers that are the same, but for its own.
+  pub given : (to : ℕ) (op : MicroOp) (size : Size) (a b : Arg) → computation_fits known to op a b ≡ true → IsTarget (holder to) → IsArgument a → (is_unary op ≡ false → IsArgument b)
+      → ((flag : ℕ) → flag < 4 → takes (is_flag flag) op a b ≡ true → is_ready (rule_of flag site.before) ≡ true) → is_direct homes to op size a b ≡ true
+      → is_quad size ≡ false → is_select op ≡ false → copied homes to op size a ≡ None → made homes to op size a b ≡ None
+      → After to op size a b (put regs (21 + to) (computed op size (value_at regs (placed homes a)) (value_at regs (placed homes b)) (regs (21 + to))))
+  given to op size a b ok target a_is b_is ready direct narrow unselected uncopied unmade =
+      let x = all_four (nat_lt to 64) (argument_fits known a) (is_unary op || argument_fits known b) (not (is_select op) || holds known to) ok in
+      let y = all_three (not (is_quad size) || is_some (made homes to op size a b)) (not (is_select op)) (not (is_shared homes to)) direct in
+      let low = target.low in
+      let high = target.high in
+      let last : ((21 + to) == 31) ≡ false = grind (arith, nat_tests) in
+      computes_words to op size a b (put regs (21 + to) (computed op size (value_at regs (placed homes a)) (value_at regs (placed homes b)) (regs (21 + to)))) target a_is x.1
+      (λ flag lt e. ready flag lt (takes_by (is_flag flag a) (is_flag flag b) (is_unary op) e))
+      (λ two. (b_is two, right (is_unary op) (argument_fits known b) two x.2, λ flag lt e. ready flag lt (takes_other (is_flag flag a) (is_flag flag b) (is_unary op) two e)))
+      narrow unselected (not-true (is_shared homes to) y.2) uncopied unmade tt
+      (record {
+        holds = put_same regs (21 + to) (computed op size (value_at regs (placed homes a)) (value_at regs (placed homes b)) (regs (21 + to))) last;
+        only = λ n out. put_other regs (21 + to) (computed op size (value_at regs (placed homes a)) (value_at regs (placed homes b)) (regs (21 + to))) n (first_of (n == (21 + to)) (n == 27) out);
+      })
+    where
+      first_of : (a b : Bool) → (a || b) ≡ false → a ≡ false
+      first_of false b e = refl
+      first_of true b e = absurd (cc e)
+
   -- a copy, and a word that makes the result
   pub copies_then : (to : ℕ) (op : MicroOp) (size : Size) (a b : Arg) (r : ℕ) → computation_fits known to op a b ≡ true → IsArgument a → copied homes to op size a ≡ Some r → After to op size a b regs
   copies_then to op size a b r ok a_is e =
@@ -633,18 +667,8 @@ module _ (p : Placement) (site : Site) (known : Known) (homes : Homes) (standing
       by (λ flag lt e. ready flag lt (takes_first flag e)) second x.1 y.0 (not-true (is_select op) y.1) (not-true (is_shared homes to) y.2)
       (copied homes to op size a) refl (made homes to op size a b) refl (compared homes to op size a b) refl (is_long_constant to op size a) refl w behind
     where
-      takes_by : (first second unary : Bool) → first ≡ true → (first || (not unary && second)) ≡ true
-      takes_by true second unary e = refl
-      takes_by false second unary e = absurd (cc e)
-
       takes_first : (flag : ℕ) → is_flag flag a ≡ true → takes (is_flag flag) op a b ≡ true
       takes_first flag e = takes_by (is_flag flag a) (is_flag flag b) (is_unary op) e
-
-      takes_other : (first second unary : Bool) → unary ≡ false → second ≡ true → (first || (not unary && second)) ≡ true
-      takes_other true second unary u e = refl
-      takes_other false true false u e = refl
-      takes_other false false unary u e = absurd (cc e)
-      takes_other false true true u e = absurd (cc u)
 
       takes_second : (flag : ℕ) → is_unary op ≡ false → is_flag flag b ≡ true → takes (is_flag flag) op a b ≡ true
       takes_second flag u e = takes_other (is_flag flag a) (is_flag flag b) (is_unary op) u e

@@ -50,7 +50,7 @@ use Rattle.program_codegen.proofs.Coded.{Coded, carry_by, coded_by, fine_operate
 use Rattle.program_codegen.proofs.Committing.{above, form_register}
 use Rattle.program_codegen.proofs.Computing.{codes_kept, held_still, held_value}
 use Rattle.program_codegen.proofs.Departures.{departs_some, same_psw}
-use Rattle.program_codegen.proofs.Exiting.{chooses, exits_to}
+use Rattle.program_codegen.proofs.Exiting.{chooses, exits_to, kept_apart}
 use Rattle.program_codegen.proofs.HomeCodes.{Moved, held_unread, home_stays, moved_effects}
 use Rattle.program_codegen.proofs.HomeHolding.{Direct, held_own, hidden, home_is}
 use Rattle.program_codegen.proofs.HomeNumbers.{IsExtended}
@@ -161,7 +161,7 @@ module _ (p : Placement) (site : Site) (codes : List AlphaInstr) (setting : Sett
       let rule_c = rule_same site.behind.c (placed 15) (placed 30) (own 15) (own 30) x.3 (sym (m.loose 15 refl)) (sym (m.loose 30 refl)) in
       rw (rule_n, rule_z, rule_v, rule_c, sym (m.same 16 refl refl refl), sym (m.same 17 refl refl refl), sym (m.same 18 refl refl refl), sym (m.same 19 refl refl refl)) e
 
-  leaves_codes : (words : List AlphaInstr) (departure : Departure) → moved_words homes codes ≡ Some words → sources_fit site.sources known ≡ true → are_short_rules site.behind ≡ true → (state_left departure).psw ≡ standing.state.psw
+  pub leaves_codes : (words : List AlphaInstr) (departure : Departure) → moved_words homes codes ≡ Some words → sources_fit site.sources known ≡ true → are_short_rules site.behind ≡ true → (state_left departure).psw ≡ standing.state.psw
       → CodesComeFrom site.sources p.begun (record { departure = departure; temps = standing.temps }) → Coded p site (hidden homes known) standing (effects words regs)
   leaves_codes words departure moved fits short left come =
       let h = d.holds in
@@ -282,7 +282,7 @@ module _ (p : Placement) (site : Site) (codes : List AlphaInstr) (setting : Sett
   exit_known (exits.Service temp) stays ok = absurd (cc stays)
   exit_known exits.Breakpoint stays ok = absurd (cc stays)
 
-  overflows : (commit : Option (ℕ × ℕ)) (left : ℕ) → sources_fit site.sources known ≡ true → left ≡ (committed commit standing).state.psw → SignsComeFrom site.sources.nzv p.begun.psw left standing.temps
+  pub overflows : (commit : Option (ℕ × ℕ)) (left : ℕ) → sources_fit site.sources known ≡ true → left ≡ (committed commit standing).state.psw → SignsComeFrom site.sources.nzv p.begun.psw left standing.temps
       → Overflows site (hidden homes known) (committed commit standing) p.begun.psw
   overflows None left ok same signs =
       let parts = sources_parts site.sources known ok in
@@ -305,24 +305,24 @@ abbrev pub emptied : Known → Known
 emptied known = record known { temp0 = Nothing; temp1 = Nothing; temp2 = Nothing; temp3 = Nothing; temp4 = Nothing; temp5 = Nothing }
 
 -- registers that show the same
-coded_alike : (p : Placement) (site : Site) (known : Known) (standing : Standing) (old new : Regs) → ((n : ℕ) → (n == 23) ≡ false → new n ≡ old n) → Coded p site known standing old → Coded p site (emptied known) standing new
-coded_alike p site known standing old new same c = record {
-  form = form_kept old new kept (same 31 refl) c.form;
+pub coded_alike : (p : Placement) (site : Site) (known : Known) (standing : Standing) (old new : Regs) (k : ℕ) → 21 ≤ k → k ≤ 27 → ((n : ℕ) → (n == k) ≡ false → new n ≡ old n) → Coded p site known standing old → Coded p site (emptied known) standing new
+coded_alike p site known standing old new k from to same c = record {
+  form = form_kept old new kept (same 31 (above 31 (lit≤ tt))) c.form;
   temps = λ temp lt three four. by_six (λ n. HoldsAs (held (emptied known) n) (standing.temps n) (new (21 + n))) tt tt tt tt tt tt temp lt;
-  state = c.state ∙ ap (λ (rs : List ℕ). with_core p.begun rs p.begun.pc standing.state.psw) (sym (registers_same old new (λ n lt. same n (low n lt))));
-  upper = c.upper ∙ ap (λ n. n / 16) (sym (same 20 refl));
+  state = c.state ∙ ap (λ (rs : List ℕ). with_core p.begun rs p.begun.pc standing.state.psw) (sym (registers_same old new (λ n lt. same n (low n (omega arith)))));
+  upper = c.upper ∙ ap (λ n. n / 16) (sym (same 20 (low 20 (lit< tt))));
   before = λ e f. codes_kept old new site.before p.held kept ∙ c.before e f;
   codes = codes_kept old new site.behind (still_held p.held p.written) kept ∙ c.codes;
 }
   where
     kept : (n : ℕ) → is_kept n ≡ true → new n ≡ old n
-    kept n e = same n (apart n e)
-      where
-        apart : (n : ℕ) → is_kept n ≡ true → (n == 23) ≡ false
-        apart n e = grind (arith, nat_tests, e)
+    kept n e = same n (kept_apart k n from to e)
 
-    low : (n : ℕ) → n < 15 → (n == 23) ≡ false
+    low : (n : ℕ) → n < 21 → (n == k) ≡ false
     low n lt = grind (arith, nat_tests)
+
+    above : (n : ℕ) → 28 ≤ n → (n == k) ≡ false
+    above n le = grind (arith, nat_tests)
 
 effects_append : (is js : List AlphaInstr) (f : Regs) → effects (is ++ js) f ≡ effects js (effects is f)
 effects_append [] js f = refl
@@ -348,7 +348,7 @@ module _ (p : Placement) (site : Site) (codes : List AlphaInstr) (setting : Sett
     now = emptied (hidden homes known);
     coded = subst (λ row. Coded p site (emptied (hidden homes known)) (committed commit standing) (effects row regs)) (sym (s.whole ∙ ap (λ made. s.front ++ made_commit made commit) s.is))
         (subst (Coded p site (emptied (hidden homes known)) (committed commit standing)) (sym (effects_append s.front (made_commit (Operate s.operation s.first s.second 23) commit) regs))
-        (coded_alike p site (hidden homes known) (committed commit standing) (effects (commit_words homes commit) (effects words begun)) (effects (made_commit (Operate s.operation s.first s.second 23) commit) (effects s.front regs)) (at_end commit s.commits) (subst (λ (o : Option AlphaInstr). Coded p site (hidden homes known) (committed commit standing) (effects (commit_words homes commit) (effects words (effects (waiting_words o) regs)))) whole_made c)));
+        (coded_alike p site (hidden homes known) (committed commit standing) (effects (commit_words homes commit) (effects words begun)) (effects (made_commit (Operate s.operation s.first s.second 23) commit) (effects s.front regs)) 23 (lit≤ tt) (lit≤ tt) (at_end commit s.commits) (subst (λ (o : Option AlphaInstr). Coded p site (hidden homes known) (committed commit standing) (effects (commit_words homes commit) (effects words (effects (waiting_words o) regs)))) whole_made c)));
     same_codes = refl;
     same_changed = refl;
     exit_holds = holds exit s.alone;

@@ -1,6 +1,6 @@
 -- The words of a program whose operands are used where they stand follow its tree.
-use Rattle.std.proofs.Common.{◌≡◌, ℕ, ◌+◌, ◌%◌, ◌^◌, ◌<◌, ◌≤◌, refl, sym, ap, ◌∙◌, subst, arith, List, [], ◌∷◌, ◌++◌, length, map, Option, Some, None, Bool, true, false, length-append}
-use Rattle.std.specs.Prelude.{◌==◌, ◌&&◌, not, nat_lt, option_map, option_and_then, if◌then◌else◌}
+use Rattle.std.proofs.Common.{◌≡◌, ℕ, ◌+◌, ◌%◌, ◌^◌, ◌<◌, ◌≤◌, refl, sym, ap, ◌∙◌, subst, arith, List, [], ◌∷◌, ◌++◌, length, map, Option, Some, None, Bool, true, false, length-append, inl, inr}
+use Rattle.std.specs.Prelude.{◌⊎◌, ◌==◌, ◌&&◌, not, nat_lt, option_map, option_and_then, if◌then◌else◌}
 use Rattle.std.specs.List.{list_all, list_any}
 use Rattle.std.proofs.lemmas.Bool.Decides.{nat_tests}
 use Rattle.std.proofs.lemmas.Bool.{and_parts, or_left, or_right}
@@ -31,7 +31,7 @@ use Rattle.block_law.proofs.Rules.{Always, operates, roomy}
 use Rattle.program_codegen.specs.declared.homes.Homes.{Homes}
 use Rattle.program_codegen.specs.declared.lines.Line.{Line}
 use Rattle.program_codegen.specs.declared.points.Site.{Site}
-use Rattle.program_codegen.specs.Homes.{are_short_rules, commit_stays, copied, direct_by, direct_code, direct_end, direct_lines, direct_step, end_at, end_lines, end_words, exit_behind, exit_stays, is_direct, made, may_end, moved_words, new_home, step_by, waiting_words, with_home}
+use Rattle.program_codegen.specs.Homes.{are_short_rules, choice_lines, commit_stays, copied, direct_by, direct_code, direct_end, direct_lines, direct_step, end_at, end_lines, end_words, exit_behind, exit_stays, is_direct, made, may_end, moved_words, new_home, next_exit, step_by, tested_at, tested_exit, waiting_words, with_home}
 use Rattle.program_codegen.specs.Programs.{AllHaveWords, ReadsReady}
 use Rattle.program_codegen.specs.Words.{departing, plain, trap_lines}
 use Rattle.program_codegen.proofs.Committing.{sets_codes}
@@ -39,29 +39,12 @@ use Rattle.program_codegen.proofs.Following.{departs, opened}
 use Rattle.program_codegen.proofs.HomeComputing.{computes, copies_then, made_word, makes_then}
 use Rattle.program_codegen.proofs.HomeEnding.{CommitFits, committed, end_follows}
 use Rattle.program_codegen.proofs.HomeHolding.{Direct, committing, hidden, written}
+use Rattle.program_codegen.proofs.HomeSomes.{chained, first_is, mapped}
+use Rattle.program_codegen.proofs.HomeTesting.{Tested, tested, tested_follows}
 use Rattle.program_codegen.proofs.Holding.{Setting, ends, found, tree}
 use Rattle.program_codegen.proofs.Knowing.{walk_fits, write_changes}
 use Rattle.program_codegen.proofs.Numbers.{all_three}
 use Rattle.program_codegen.proofs.Walk.{Within, is_inside, row_length, row_rest, row_words}
-
--- ---- what there is, if something is
-pub record Mapped (A B : Type 0) (f : A → B) (o : Option A) (y : B) : Type 0 where
-  pub found : A
-  pub is : o ≡ Some found
-  pub whole : f found ≡ y
-
-pub mapped : (A B : Type 0) (f : A → B) (o : Option A) (y : B) → option_map f o ≡ Some y → Mapped A B f o y
-mapped A B f None y e = absurd (cc e)
-mapped A B f (Some x) y e = record { found = x; is = refl; whole = same_Some (f x) y e }
-
-pub record Chained (A B : Type 0) (f : A → Option B) (o : Option A) (y : B) : Type 0 where
-  pub found : A
-  pub is : o ≡ Some found
-  pub onward : f found ≡ Some y
-
-pub chained : (A B : Type 0) (f : A → Option B) (o : Option A) (y : B) → option_and_then f o ≡ Some y → Chained A B f o y
-chained A B f None y e = absurd (cc e)
-chained A B f (Some x) y e = record { found = x; is = refl; onward = e }
 
 -- ---- a step
 pub record Stepped (site : Site) (homes : Homes) (to : ℕ) (op : MicroOp) (size : Size) (a b : Arg) (program : List Micro) (step : Homes × List AlphaInstr) (out : Bool) : Type 0 where
@@ -133,12 +116,22 @@ module _ (site : Site) (codes : List AlphaInstr) where
   -- lines of a program end with an exit
   pub direct_some : (program : List Micro) (homes : Homes) (lines : List Line) → direct_lines site codes homes program ≡ Some lines → 1 ≤ length lines
   direct_some [] homes lines e = absurd (cc e)
-  direct_some (Compute to op size a b ∷ program) homes lines e =
-      let c = chained (Homes × List AlphaInstr) (List Line) (λ (step : Homes × List AlphaInstr). option_map (λ (lines : List Line). map plain step.1 ++ lines) (direct_lines site codes step.0 program)) (direct_step site.sources homes to op size a b program) lines e in
-      let m = mapped (List Line) (List Line) (λ (lines : List Line). map plain c.found.1 ++ lines) (direct_lines site codes c.found.0 program) lines c.onward in
-      let some = direct_some program c.found.0 m.found m.is in
-      let count = length-append (map plain c.found.1) m.found in
-      subst (λ (ls : List Line). 1 ≤ length ls) m.whole (omega arith)
+  direct_some (Compute to op size a b ∷ program) homes lines e = by (λ homes' rest is. direct_some program homes' rest is) (first_is (tested_at site codes homes (Compute to op size a b) program) (option_and_then (λ (step : Homes × List AlphaInstr). option_map (λ (lines : List Line). map plain step.1 ++ lines) (direct_lines site codes step.0 program)) (direct_step site.sources homes to op size a b program)) lines e)
+    where
+      by : ((homes' : Homes) (rest : List Line) → direct_lines site codes homes' program ≡ Some rest → 1 ≤ length rest)
+          → ((tested_at site codes homes (Compute to op size a b) program) ≡ Some lines) ⊎ (((tested_at site codes homes (Compute to op size a b) program) ≡ None) × ((option_and_then (λ (step : Homes × List AlphaInstr). option_map (λ (lines : List Line). map plain step.1 ++ lines) (direct_lines site codes step.0 program)) (direct_step site.sources homes to op size a b program)) ≡ Some lines)) → 1 ≤ length lines
+      by onward (inl tests) =
+          let c = chained Exit (List Line) (tested_exit site codes homes to op size a b) (next_exit program) lines tests in
+          let s = tested site codes homes to op size a b c.found lines c.onward in
+          let count = length-append (map plain (waiting_words homes.waiting)) (choice_lines s.test s.chosen s.other) in
+          subst (λ (ls : List Line). 1 ≤ length ls) s.whole (omega arith)
+      by onward (inr x) =
+          let e = x.1 in
+          let c = chained (Homes × List AlphaInstr) (List Line) (λ (step : Homes × List AlphaInstr). option_map (λ (lines : List Line). map plain step.1 ++ lines) (direct_lines site codes step.0 program)) (direct_step site.sources homes to op size a b program) lines e in
+          let m = mapped (List Line) (List Line) (λ (lines : List Line). map plain c.found.1 ++ lines) (direct_lines site codes c.found.0 program) lines c.onward in
+          let some = onward c.found.0 m.found m.is in
+          let count = length-append (map plain c.found.1) m.found in
+          subst (λ (ls : List Line). 1 ≤ length ls) m.whole (omega arith)
   direct_some (Commit number source ∷ program) homes lines e = end_some (Commit number source) program homes lines e
   direct_some (Codes n z v c ∷ program) homes lines e = end_some (Codes n z v c) program homes lines e
   direct_some (Leave exit ∷ program) homes lines e = end_some (Leave exit) program homes lines e
@@ -284,10 +277,7 @@ module _ (p : Placement) (site : Site) (codes : List AlphaInstr) (setting : Sett
       let behind = behind_write to (holding_of (leaves_longword (Compute to op size a b))) known in
       let x = walk_fits (computation_fits known to op a b) behind (λ behind. walk site.sources behind program) (opened site.sources known (Compute to op size a b) program off walked) in
       let off' = (write_changes to (holding_of (leaves_longword (Compute to op size a b))) known).ended ∙ off in
-      let c = chained (Homes × List AlphaInstr) (List Line) (λ (step : Homes × List AlphaInstr). option_map (λ (lines : List Line). map plain step.1 ++ lines) (direct_lines site codes step.0 program)) (direct_step site.sources homes to op size a b program) lines e in
-      let m = mapped (List Line) (List Line) (λ (lines : List Line). map plain c.found.1 ++ lines) (direct_lines site codes c.found.0 program) lines c.onward in
-      by c.found m.found m.is m.whole x.0 (λ standing' g pc' homes' is' w' waits' d' agree'. direct_follows program homes' m.found behind standing' g pc' is' w' have.1 (later_flags (Compute to op size a b) program reads) off' x.1 waits' d' agree')
-      (is_left_out site.sources (Compute to op size a b) program) refl (stepped site homes to op size a b program c.found (is_left_out site.sources (Compute to op size a b) program) refl c.is)
+      of x.0 x.1 off' (λ standing' g pc' homes' rest is' w' waits' d' agree'. direct_follows program homes' rest behind standing' g pc' is' w' have.1 (later_flags (Compute to op size a b) program reads) off' x.1 waits' d' agree') (first_is (tested_at site codes homes (Compute to op size a b) program) (option_and_then (λ (step : Homes × List AlphaInstr). option_map (λ (lines : List Line). map plain step.1 ++ lines) (direct_lines site codes step.0 program)) (direct_step site.sources homes to op size a b program)) lines e)
     where
       value : ℕ
       value = computed op size (value_of_arg (found p site) standing.temps a) (value_of_arg (found p site) standing.temps b) (standing.temps to)
@@ -315,6 +305,22 @@ module _ (p : Placement) (site : Site) (codes : List AlphaInstr) (setting : Sett
           let high = w.high in
           operates p None need (waiting_words homes.waiting) regs pc t (row_words p site.behind pc (waiting_words homes.waiting) rest w) waits w.low (omega arith)
           (λ q lt le. is_inside p site.behind pc q (map plain (waiting_words homes.waiting) ++ rest) w lt (omega arith)) behind
+
+      tested_then : (exit : Exit) (program : List Micro) → next_exit program ≡ Some exit → Tested site codes homes to op size a b exit lines → computation_fits known to op a b ≡ true → is_ended (walk site.sources after program) ≡ true → after.ended ≡ false
+          → AllHaveWords site.sources (Compute to op size a b ∷ program) → ReadsReady site.before (Compute to op size a b ∷ program)
+          → AtLeaves (CodesComeFrom site.sources p.begun) (Course_of program (with_value to value standing)) → Always p None (length lines) (at_place regs pc) (tree (ends p) (Course_of program (with_value to value standing)))
+      tested_then exit (Leave leave ∷ program) is s fits walked off have reads agree =
+          let x = walk_fits (exit_fits after leave && sources_fit site.sources after) (record after { ended = true }) (λ behind. walk site.sources behind program) (opened site.sources after (Leave leave) program off walked) in
+          let y = and_parts (exit_fits after leave) (sources_fit site.sources after) x.0 in
+          let s' = subst (λ exit. Tested site codes homes to op size a b exit lines) (sym (same_Some leave exit is)) s in
+          let own = s.own in
+          let low : is_low to ≡ true = grind (arith, nat_tests) in
+          let out : is_left_out site.sources (Compute to op size a b) (Leave leave ∷ program) ≡ false = ap (λ b. not b && not (is_used site.sources (Leave leave ∷ program) to)) low in
+          let has = have.0 out in
+          tested_follows p site codes setting known homes standing regs pc to op size a b leave lines waits d s' w fits has.1 has.2
+          (λ flag lt is. reads flag lt (or_left (reads_flag flag (Compute to op size a b)) (list_any (reads_flag flag) (Leave leave ∷ program)) is)) y.0 y.1 agree
+      tested_then exit [] is s fits walked off have reads agree = absurd (cc is)
+      tested_then exit (operation ∷ program) is s fits walked off have reads agree = absurd (cc is)
 
       by_words : (rest : List Line) → computation_fits known to op a b ≡ true → Onward rest → is_left_out site.sources (Compute to op size a b) program ≡ false → is_direct homes to op size a b ≡ true
           → (o : Option ℕ) → copied homes to op size a ≡ o → (q : Option AlphaInstr) → made homes to op size a b ≡ q
@@ -367,6 +373,18 @@ module _ (p : Placement) (site : Site) (codes : List AlphaInstr) (setting : Sett
           subst (λ (ls : List Line). Always p None (length ls) (at_place regs pc) (tree (ends p) (Course_of (Compute to op size a b ∷ program) standing))) same
           (by_words rest fits onward out (s.direct refl) (copied homes to op size a) refl (made homes to op size a b) refl
           (subst (λ (step : Homes × List AlphaInstr). direct_lines site codes step.0 program ≡ Some rest) s.is is) (subst (Within p site.behind pc) (sym same) w))
+
+      of : computation_fits known to op a b ≡ true → is_ended (walk site.sources after program) ≡ true → after.ended ≡ false
+          → ((standing' : Standing) (g : Regs) (pc' : ℕ) (homes' : Homes) (rest : List Line) → direct_lines site codes homes' program ≡ Some rest → Within p site.behind pc' rest → Waits homes' → Direct p site (behind_write to (holding_of (leaves_longword (Compute to op size a b))) known) homes' standing' (effects (waiting_words homes'.waiting) g) → AtLeaves (CodesComeFrom site.sources p.begun) (Course_of program standing') → Follows program rest standing' g pc')
+          → ((tested_at site codes homes (Compute to op size a b) program) ≡ Some lines) ⊎ (((tested_at site codes homes (Compute to op size a b) program) ≡ None) × ((option_and_then (λ (step : Homes × List AlphaInstr). option_map (λ (lines : List Line). map plain step.1 ++ lines) (direct_lines site codes step.0 program)) (direct_step site.sources homes to op size a b program)) ≡ Some lines)) → Always p None (length lines) (at_place regs pc) (tree (ends p) (Course_of (Compute to op size a b ∷ program) standing))
+      of fits walked' off' onward (inl tests) =
+          let c = chained Exit (List Line) (tested_exit site codes homes to op size a b) (next_exit program) lines tests in
+          tested_then c.found program c.is (tested site codes homes to op size a b c.found lines c.onward) fits walked' off' have reads agree
+      of fits walked' off' onward (inr y) =
+          let c = chained (Homes × List AlphaInstr) (List Line) (λ (step : Homes × List AlphaInstr). option_map (λ (lines : List Line). map plain step.1 ++ lines) (direct_lines site codes step.0 program)) (direct_step site.sources homes to op size a b program) lines y.1 in
+          let m = mapped (List Line) (List Line) (λ (lines : List Line). map plain c.found.1 ++ lines) (direct_lines site codes c.found.0 program) lines c.onward in
+          by c.found m.found m.is m.whole fits (λ standing' g pc' homes' is' w' waits' d' agree'. onward standing' g pc' homes' m.found is' w' waits' d' agree')
+          (is_left_out site.sources (Compute to op size a b) program) refl (stepped site homes to op size a b program c.found (is_left_out site.sources (Compute to op size a b) program) refl c.is)
   direct_follows (Commit number source ∷ program) homes lines known standing regs pc e w have reads off walked waits d agree =
       let x = walk_fits (commit_fits known number source) (behind_commit number known) (λ behind. walk site.sources behind program) (opened site.sources known (Commit number source) program off walked) in
       let y = all_three (nat_lt number 15) (holds known source) (not (is_committed known number)) x.0 in

@@ -1,6 +1,6 @@
 -- The loops that push the lines of a program whose operands are used where they stand.
 use Rattle.std.proofs.Common.{◌≡◌, ℕ, ◌+◌, ◌-◌, ◌<◌, refl, sym, ap, ◌∙◌, subst, List, [], ◌∷◌, ◌++◌, length, map, get_or, take, drop, Option, Some, None, Bool, true, false, append_assoc, Result, Ok, Err}
-use Rattle.std.specs.Prelude.{option_map, option_and_then, IfOk, IfSome, if◌then◌else◌}
+use Rattle.std.specs.Prelude.{option_map, option_and_then, IfOk, IfSome, MatchOption, if◌then◌else◌}
 use Rattle.std.proofs.lemmas.List.{drop_more, take_rest}
 use Rattle.std.proofs.lemmas.Option.{same_Some}
 use Rattle.alpha_encode.specs.declared.instr.AlphaInstr.{AlphaInstr}
@@ -12,7 +12,7 @@ use Rattle.micro_ops.specs.declared.program.Micro.TheVariants.{Compute, Probe, R
 use Rattle.program_codegen.specs.declared.homes.Homes.{Homes}
 use Rattle.program_codegen.specs.declared.lines.Line.{Line}
 use Rattle.program_codegen.specs.declared.points.Site.{Site}
-use Rattle.program_codegen.specs.Homes.{AreHomes, direct_lines, end_at, exit_behind, homes_at, is_computation, step_at, words_at}
+use Rattle.program_codegen.specs.Homes.{AreHomes, direct_lines, end_at, exit_behind, either_of, homes_at, is_computation, step_at, tested_at, words_at}
 use Rattle.program_codegen.specs.Programs.{AllFitWords, AllRanged, IsExit, IsRanged, IsRangedExit, RangedToLeave}
 use Rattle.program_codegen.specs.Words.{plain}
 
@@ -85,35 +85,36 @@ module _ (site : Site) (codes : List AlphaInstr) where
   abbrev onward : List Micro → (Homes × List AlphaInstr) → Option (List Line)
   onward behind step = option_map (λ (lines : List Line). map plain step.1 ++ lines) (direct_lines site codes step.0 behind)
 
-  by_step : (homes : Homes) (operation : Micro) (behind : List Micro) → is_computation operation ≡ true
+  by_step : (homes : Homes) (operation : Micro) (behind : List Micro) → is_computation operation ≡ true → tested_at site codes homes operation behind ≡ None
       → direct_lines site codes homes (operation ∷ behind) ≡ option_and_then (onward behind) (step_at site.sources homes operation behind)
-  by_step homes (Compute to op size a b) behind e = refl
-  by_step homes (Commit number source) behind e = absurd (cc e)
-  by_step homes (Codes n z v c) behind e = absurd (cc e)
-  by_step homes (Leave exit) behind e = absurd (cc e)
-  by_step homes (Probe place count write) behind e = absurd (cc e)
-  by_step homes (Refuse when) behind e = absurd (cc e)
-  by_step homes (Read to place count) behind e = absurd (cc e)
-  by_step homes (Write place count source) behind e = absurd (cc e)
-  by_step homes (Locked to place kind source) behind e = absurd (cc e)
-  by_step homes (SetPsw source) behind e = absurd (cc e)
+  by_step homes (Compute to op size a b) behind e none = ap (λ o. either_of o (option_and_then (onward behind) (step_at site.sources homes (Compute to op size a b) behind))) none
+  by_step homes (Commit number source) behind e none = absurd (cc e)
+  by_step homes (Codes n z v c) behind e none = absurd (cc e)
+  by_step homes (Leave exit) behind e none = absurd (cc e)
+  by_step homes (Probe place count write) behind e none = absurd (cc e)
+  by_step homes (Refuse when) behind e none = absurd (cc e)
+  by_step homes (Read to place count) behind e none = absurd (cc e)
+  by_step homes (Write place count source) behind e none = absurd (cc e)
+  by_step homes (Locked to place kind source) behind e none = absurd (cc e)
+  by_step homes (SetPsw source) behind e none = absurd (cc e)
 
-  module _ (homes : Homes) (program : List Micro) (i : ℕ) (d : Micro) (lt : i < length program) (is : is_computation (get_or program i d) ≡ true) where
+  module _ (homes : Homes) (program : List Micro) (i : ℕ) (d : Micro) (lt : i < length program) (is : is_computation (get_or program i d) ≡ true)
+      (none : tested_at site codes homes (get_or program i d) (take (length program - (i + 1)) (drop (i + 1) program)) ≡ None) where
     abbrev rest : List Micro
     rest = take (length program - (i + 1)) (drop (i + 1) program)
 
     at_step : direct_lines site codes homes (drop i program) ≡ option_and_then (onward (drop (i + 1) program)) (step_at site.sources homes (get_or program i d) (take (length program - (i + 1)) (drop (i + 1) program)))
     at_step =
         ap (direct_lines site codes homes) (drop_more program i d lt)
-        ∙ (by_step homes (get_or program i d) (drop (i + 1) program) is
+        ∙ (by_step homes (get_or program i d) (drop (i + 1) program) is (subst (λ behind. tested_at site codes homes (get_or program i d) behind ≡ None) (take_rest program (i + 1)) none)
         ∙ ap (λ behind. option_and_then (onward (drop (i + 1) program)) (step_at site.sources homes (get_or program i d) behind)) (sym (take_rest program (i + 1))))
 
     pub step_none : homes_at (step_at site.sources homes (get_or program i d) (take (length program - (i + 1)) (drop (i + 1) program))) ≡ None → direct_lines site codes homes (drop i program) ≡ None
-    step_none e = at_step ∙ ap (option_and_then (onward (drop (i + 1) program))) (none (step_at site.sources homes (get_or program i d) (take (length program - (i + 1)) (drop (i + 1) program))) e)
+    step_none e = at_step ∙ ap (option_and_then (onward (drop (i + 1) program))) (nothing (step_at site.sources homes (get_or program i d) (take (length program - (i + 1)) (drop (i + 1) program))) e)
       where
-        none : (o : Option (Homes × List AlphaInstr)) → homes_at o ≡ None → o ≡ None
-        none None e = refl
-        none (Some step) e = absurd (cc e)
+        nothing : (o : Option (Homes × List AlphaInstr)) → homes_at o ≡ None → o ≡ None
+        nothing None e = refl
+        nothing (Some step) e = absurd (cc e)
 
     pub step_some : (now : Homes) (before behind : List Line) → homes_at (step_at site.sources homes (get_or program i d) (take (length program - (i + 1)) (drop (i + 1) program))) ≡ Some now
         → behind ≡ before ++ map plain (words_at (step_at site.sources homes (get_or program i d) (take (length program - (i + 1)) (drop (i + 1) program))))
@@ -136,6 +137,9 @@ module _ (site : Site) (codes : List AlphaInstr) where
 
 pub words_behind : (sources : CodeSources) (program : List Micro) (i : ℕ) (d : Micro) → i < length program → AllFitWords sources (drop i program) → AllFitWords sources (drop (i + 1) program)
 words_behind sources program i d lt fits = (subst (AllFitWords sources) (drop_more program i d lt) fits).1
+
+pub when_none : {X : Type 0} (o : Option X) (A : Type 0) (P : X → Type 0) → o ≡ None → MatchOption o A P → A
+when_none o A P e h = subst (λ o. MatchOption o A P) e h
 
 pub some_homes : (o : Option Homes) (now : Homes) → o ≡ Some now → IfSome o AreHomes → AreHomes now
 some_homes o now e are = subst (λ o. IfSome o AreHomes) e are

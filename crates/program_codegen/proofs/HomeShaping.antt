@@ -1,6 +1,6 @@
 -- The lines of a program whose operands are used where they stand, by themselves.
-use Rattle.std.proofs.Common.{◌≡◌, ℕ, ◌+◌, ◌-◌, ◌^◌, ◌<◌, ◌≤◌, refl, sym, ap, ap₂, ◌∙◌, subst, arith, List, [], ◌∷◌, ◌++◌, length, map, Option, Some, None, Bool, true, false, lit<, lit≤, length-append}
-use Rattle.std.specs.Prelude.{◌==◌, ◌&&◌, ◌||◌, is_some, not, nat_lt, All, option_map, if◌then◌else◌}
+use Rattle.std.proofs.Common.{◌≡◌, ℕ, ◌+◌, ◌-◌, ◌^◌, ◌<◌, ◌≤◌, refl, sym, ap, ap₂, ◌∙◌, subst, arith, List, [], ◌∷◌, ◌++◌, length, map, Option, Some, None, Bool, true, false, lit<, lit≤, length-append, inl, inr}
+use Rattle.std.specs.Prelude.{◌⊎◌, pos, ◌==◌, ◌&&◌, ◌||◌, is_some, not, nat_lt, All, option_and_then, option_map, if◌then◌else◌}
 use Rattle.std.specs.List.{list_all, list_any}
 use Rattle.std.proofs.lemmas.Bool.Decides.{nat_tests}
 use Rattle.std.proofs.lemmas.Bool.{and_parts, ltb-true, and_from}
@@ -12,7 +12,9 @@ use Rattle.vax_form.specs.declared.instr.Size.{Size}
 use Rattle.vax_form.specs.declared.instr.Size.TheVariants.{Byte, Word, Long, Quad}
 use Rattle.alpha_encode.specs.Words.{IsEncodable, IsSecond}
 use Rattle.alpha_encode.specs.declared.instr.AlphaInstr.{AlphaInstr}
-use Rattle.alpha_encode.specs.declared.instr.AlphaInstr.TheVariants.{Operate}
+use Rattle.alpha_encode.specs.declared.instr.AlphaInstr.TheVariants.{Branch, Operate}
+use Rattle.alpha_encode.specs.declared.instr.BranchOp.{BranchOp}
+use Rattle.alpha_meaning.specs.Act.{links}
 use Rattle.alpha_encode.specs.declared.instr.OperateOp.{OperateOp}
 use Rattle.alpha_encode.specs.declared.instr.OperateOp.TheVariants as row
 use Rattle.alpha_encode.specs.declared.instr.Second.{Second}
@@ -30,7 +32,7 @@ use Rattle.micro_ops.specs.declared.program.MicroOp.{MicroOp}
 use Rattle.micro_ops.specs.declared.program.MicroOp.TheVariants.{Move, SignExtend, ZeroExtend, Add, Sub, And, Or, Xor, AndNot, Equal, Less, LessUnsigned}
 use Rattle.micro_ops.specs.Fits.{codes_fit, commit_fits, computation_fits, exit_fits, holding_of, is_ended, sources_fit, step, walk}
 use Rattle.micro_ops.specs.Known.{behind_commit, behind_write}
-use Rattle.micro_ops.specs.LeftOut.{is_left_out}
+use Rattle.micro_ops.specs.LeftOut.{is_left_out, is_low, is_used}
 use Rattle.micro_ops.specs.Uses.{is_quad, is_select, is_unary, leaves_longword}
 use Rattle.micro_ops.specs.WordCounts.{argument_words, by_size, has_literal, is_literal, operation_words, program_words, second_words, words_of as count_of}
 use Rattle.compute_sequences.specs.Promises.{changes_only}
@@ -42,22 +44,24 @@ use Rattle.block_law.specs.Tidy.{may_fault, register_written, writes_register}
 use Rattle.program_codegen.specs.declared.homes.Homes.{Homes}
 use Rattle.program_codegen.specs.declared.lines.Line.{Line}
 use Rattle.program_codegen.specs.declared.points.Site.{Site}
-use Rattle.program_codegen.specs.Homes.{AreHomes, IsHome, are_short_rules, code_by, commit_stays, commit_words, compared, comparison, copied, direct_code, direct_lines, direct_step, end_lines, exit_behind, exit_stays, extended_first, extended_second, home_by, home_of, is_const, is_copying, is_home_constant, is_long_constant, is_shared, extending, long_operation, made, may_end, moved_words, new_home, placed, standing_in, with_home, end_words, is_short_constant, step_by, waiting_words}
+use Rattle.program_codegen.specs.Homes.{AreHomes, IsHome, are_short_rules, code_by, commit_stays, commit_words, compared, comparison, copied, direct_code, direct_lines, direct_step, end_lines, exit_behind, exit_stays, extended_first, extended_second, home_by, home_of, is_const, is_copying, is_home_constant, is_long_constant, is_shared, extending, long_operation, made, may_end, moved_words, new_home, placed, standing_in, with_home, end_words, is_short_constant, step_by, waiting_words, choice_lines, next_exit, tested_at, tested_exit}
 use Rattle.program_codegen.specs.Programs.{AllHaveWords, IsExit}
-use Rattle.program_codegen.specs.Words.{departing, plain, trap_lines, words_of}
+use Rattle.program_codegen.specs.Words.{departing, exit_lines, plain, trap_lines, words_of}
 use Rattle.program_codegen.proofs.Coded.{fine_operates}
-use Rattle.program_codegen.proofs.Endings.{codes_local, codes_quiet, departing_each, departing_goes, departing_short, departing_spares, one_word, or_nothing, traps_silent}
+use Rattle.program_codegen.proofs.Endings.{above_codes, codes_local, codes_quiet, departing_each, departing_goes, departing_short, departing_spares, one_word, or_nothing, traps_silent}
 use Rattle.program_codegen.proofs.Following.{opened}
 use Rattle.program_codegen.proofs.Fronts.{Shape, any_neither, change_front, line_front, quiet_kept, row_targets, row_words_are, silent_front, spares_append, targets, targets_append, words_append}
 use Rattle.program_codegen.proofs.HomeComputing.{compared_word, copying, made_word, no_quad}
 use Rattle.program_codegen.proofs.HomeFollowing.{Stepped, chained, ends_with, mapped, stepped, with_exit, row_apart, waits_same}
+use Rattle.program_codegen.proofs.HomeSomes.{chained, first_is, mapped}
+use Rattle.program_codegen.proofs.HomeTesting.{Tested, facts, tested}
 use Rattle.program_codegen.proofs.HomeHolding.{copied_home, extended_home, home_is, homes_are, placed_is}
 use Rattle.program_codegen.proofs.HomeShapes.{moved_encodable, moved_fine, moved_length, moved_writes}
 use Rattle.program_codegen.proofs.HomeSparing.{IsNumbered, Waiting, commit_count, end_operates, end_row}
 use Rattle.program_codegen.proofs.Knowing.{nothing_behind, walk_fits, write_changes}
 use Rattle.program_codegen.proofs.Numbers.{all_three}
-use Rattle.program_codegen.proofs.Rows.{changes_silent, is_silent, list_all_of}
-use Rattle.program_codegen.proofs.Shapes.{each_append, is_local, row_fits}
+use Rattle.program_codegen.proofs.Rows.{branch_encodable, changes_silent, is_silent, list_all_of}
+use Rattle.program_codegen.proofs.Shapes.{each_append, exit_each, is_local, plain_fits, row_fits}
 use Rattle.program_codegen.proofs.Walk.{plain_length}
 
 -- ---- homes
@@ -348,6 +352,19 @@ module _ (site : Site) (codes : List AlphaInstr) (after_fits : site.after < 2 ^ 
   weaker : (changed : Bool) (addresses : List ℕ) (n m : ℕ) (lines : List Line) → n ≤ m → Shape site changed codes addresses n lines → Shape site changed codes addresses m lines
   weaker changed addresses n m lines le shape = let short = shape.short in record { each = shape.each; kept = shape.kept; goes = shape.goes; writes = shape.writes; short = omega arith }
 
+  -- one of two exits
+  choice_shape : (changed : Bool) (test : BranchOp × ℕ) (chosen other : ℕ) → codes ≡ [] → links test.0 ≡ false → test.1 < 32 → chosen < 2 ^ 32 → other < 2 ^ 32 → Shape site changed codes (chosen ∷ other ∷ []) 7 (choice_lines test chosen other)
+  choice_shape changed test chosen other none unlinked small lt lt' = record {
+    each = (
+      plain_fits site (Branch test.0 test.1 (pos 3)) (branch_encodable test.0 test.1 3 small (lit< tt)) refl,
+      each_append site 0 (exit_lines chosen) (exit_lines other) (exit_each site chosen lt) (exit_each site other lt'),
+    );
+    kept = quiet_kept changed (words_of (choice_lines test chosen other)) refl;
+    goes = refl;
+    writes = λ r low high. (let free = above_codes 31 r (lit≤ tt) high in rw (unlinked, free) refl) ∙ ap (writes_register r) (sym none);
+    short = lit≤ tt;
+  }
+
   pub direct_shape : (program : List Micro) (homes : Homes) → AreHomes homes → Waiting homes → (lines : List Line) (changed : Bool) (known : Known) → direct_lines site codes homes program ≡ Some lines → AllHaveWords site.sources program
       → known.ended ≡ false → is_ended (walk site.sources known program) ≡ true → ShapeOf changed homes program lines
   unfolding step
@@ -356,11 +373,7 @@ module _ (site : Site) (codes : List AlphaInstr) (after_fits : site.after < 2 ^ 
       let behind = behind_write to (holding_of (leaves_longword (Compute to op size a b))) known in
       let x = walk_fits (computation_fits known to op a b) behind (λ behind. walk site.sources behind program) (opened site.sources known (Compute to op size a b) program off walked) in
       let off' = (write_changes to (holding_of (leaves_longword (Compute to op size a b))) known).ended ∙ off in
-      let c = chained (Homes × List AlphaInstr) (List Line) (λ (step : Homes × List AlphaInstr). option_map (λ (lines : List Line). map plain step.1 ++ lines) (direct_lines site codes step.0 program)) (direct_step site.sources homes to op size a b program) lines e in
-      let m = mapped (List Line) (List Line) (λ (lines : List Line). map plain c.found.1 ++ lines) (direct_lines site codes c.found.0 program) lines c.onward in
-      subst (λ (ls : List Line). ShapeOf changed homes (Compute to op size a b ∷ program) ls) m.whole
-      (by c.found m.found m.is (λ homes' are' waits' is'. direct_shape program homes' are' waits' m.found changed behind is' have.1 off' x.1)
-      (is_left_out site.sources (Compute to op size a b) program) refl (stepped site homes to op size a b program c.found (is_left_out site.sources (Compute to op size a b) program) refl c.is))
+      of x.1 off' (λ homes' are' waits' rest is'. direct_shape program homes' are' waits' rest changed behind is' have.1 off' x.1) (first_is (tested_at site codes homes (Compute to op size a b) program) (option_and_then (λ (step : Homes × List AlphaInstr). option_map (λ (lines : List Line). map plain step.1 ++ lines) (direct_lines site codes step.0 program)) (direct_step site.sources homes to op size a b program)) lines e)
     where
       homes_then : Homes
       homes_then = with_home to (new_home homes to op size a b) homes
@@ -426,6 +439,39 @@ module _ (site : Site) (codes : List AlphaInstr) (after_fits : site.after < 2 ^ 
           subst (λ (step : Homes × List AlphaInstr). Shape site changed codes (addresses_of site.after program) (count_of (Compute to op size a b) + program_words site.sources program + 59 + length (waiting_words homes.waiting)) (map plain step.1 ++ rest)) (sym s.is)
           (by_words rest shape (homes_are to (new_home homes to op size a b) homes (new_home_is homes are to op size a b has.1) are) has.0 has.1 has.2 direct.0 (copied homes to op size a) refl (made homes to op size a b) refl
           (subst (λ (step : Homes × List AlphaInstr). direct_lines site codes step.0 program ≡ Some rest) s.is is))
+
+      tested_then : (exit : Exit) (program : List Micro) → next_exit program ≡ Some exit → Tested site codes homes to op size a b exit lines → is_ended (walk site.sources (behind_write to (holding_of (leaves_longword (Compute to op size a b))) known) program) ≡ true
+          → (behind_write to (holding_of (leaves_longword (Compute to op size a b))) known).ended ≡ false → AllHaveWords site.sources (Compute to op size a b ∷ program) → ShapeOf changed homes (Compute to op size a b ∷ program) lines
+      tested_then exit (Leave leave ∷ program) is s walked off have =
+          let behind = behind_write to (holding_of (leaves_longword (Compute to op size a b))) known in
+          let x = walk_fits (exit_fits behind leave && sources_fit site.sources behind) (record behind { ended = true }) (λ behind. walk site.sources behind program) (opened site.sources behind (Leave leave) program off walked) in
+          let none = nothing_behind site.sources (record behind { ended = true }) program refl x.1 in
+          let own = s.own in
+          let low : is_low to ≡ true = grind (arith, nat_tests) in
+          let out : is_left_out site.sources (Compute to op size a b) (Leave leave ∷ program) ≡ false = ap (λ b. not b && not (is_used site.sources (Leave leave ∷ program) to)) low in
+          let f = facts homes are to s.own op size a b s.test s.found in
+          let leaves : leave ≡ exits.Choice to s.chosen s.other = same_Some leave exit is ∙ s.is in
+          let fits : IsExit (exits.Choice to s.chosen s.other) = subst IsExit leaves have.1.0 in
+          let shape = choice_shape changed s.test s.chosen s.other s.no_codes f.unlinked (f.small (have.0 out).1) fits.1 fits.2 in
+          let count = plain_length (waiting_words homes.waiting) in
+          subst (λ (rest : List Micro). ShapeOf changed homes (Compute to op size a b ∷ Leave leave ∷ rest) lines) (sym none)
+          (subst (λ leave. ShapeOf changed homes (Compute to op size a b ∷ Leave leave ∷ []) lines) (sym leaves)
+          (subst (λ (ls : List Line). ShapeOf changed homes (Compute to op size a b ∷ Leave (exits.Choice to s.chosen s.other) ∷ []) ls) s.whole
+          (silent_front site codes (s.chosen ∷ s.other ∷ []) changed (length (waiting_words homes.waiting)) 7 _ (waiting_words homes.waiting) (choice_lines s.test s.chosen s.other) waits.encodable waits.silent (omega arith) (omega arith) shape)))
+      tested_then exit [] is s walked off have = absurd (cc is)
+      tested_then exit (operation ∷ program) is s walked off have = absurd (cc is)
+
+      of : is_ended (walk site.sources (behind_write to (holding_of (leaves_longword (Compute to op size a b))) known) program) ≡ true → (behind_write to (holding_of (leaves_longword (Compute to op size a b))) known).ended ≡ false → ((homes' : Homes) → AreHomes homes' → Waiting homes' → (rest : List Line) → direct_lines site codes homes' program ≡ Some rest → ShapeOf changed homes' program rest)
+          → ((tested_at site codes homes (Compute to op size a b) program) ≡ Some lines) ⊎ (((tested_at site codes homes (Compute to op size a b) program) ≡ None) × ((option_and_then (λ (step : Homes × List AlphaInstr). option_map (λ (lines : List Line). map plain step.1 ++ lines) (direct_lines site codes step.0 program)) (direct_step site.sources homes to op size a b program)) ≡ Some lines)) → ShapeOf changed homes (Compute to op size a b ∷ program) lines
+      of walked' off' onward (inl tests) =
+          let c = chained Exit (List Line) (tested_exit site codes homes to op size a b) (next_exit program) lines tests in
+          tested_then c.found program c.is (tested site codes homes to op size a b c.found lines c.onward) walked' off' have
+      of walked' off' onward (inr y) =
+          let c = chained (Homes × List AlphaInstr) (List Line) (λ (step : Homes × List AlphaInstr). option_map (λ (lines : List Line). map plain step.1 ++ lines) (direct_lines site codes step.0 program)) (direct_step site.sources homes to op size a b program) lines y.1 in
+          let m = mapped (List Line) (List Line) (λ (lines : List Line). map plain c.found.1 ++ lines) (direct_lines site codes c.found.0 program) lines c.onward in
+          subst (λ (ls : List Line). ShapeOf changed homes (Compute to op size a b ∷ program) ls) m.whole
+          (by c.found m.found m.is (λ homes' are' waits' is'. onward homes' are' waits' m.found is')
+          (is_left_out site.sources (Compute to op size a b) program) refl (stepped site homes to op size a b program c.found (is_left_out site.sources (Compute to op size a b) program) refl c.is))
   direct_shape (Commit number source ∷ program) homes are waits lines changed known e have off walked =
       let x = walk_fits (commit_fits known number source) (behind_commit number known) (λ behind. walk site.sources behind program) (opened site.sources known (Commit number source) program off walked) in
       let z = with_exit site codes (Some (number, source)) (Commit number source) program homes lines refl e in

@@ -46,11 +46,13 @@ pub mod Departures
 pub mod Beginning
 pub mod HomeNumbers
 pub mod HomeCodes
+pub mod HomeSomes
 pub mod HomeShapes
 pub mod HomeSparing
 pub mod HomeHolding
 pub mod HomeComputing
 pub mod HomeEnding
+pub mod HomeTesting
 pub mod HomeFollowing
 pub mod HomeShaping
 pub mod Chosen

@@ -13,7 +13,10 @@ use Rattle.exception_records.specs.declared.points.Point.{Point}
 use Rattle.exception_records.specs.declared.rules.Rules.{Rules}
 use Rattle.micro_ops.specs.Sources.{sources_of_long}
 use Rattle.micro_ops.specs.declared.codes.CodeSources.{CodeSources}
+use Rattle.vax_form.specs.declared.instr.Size.{Size}
+use Rattle.micro_ops.specs.declared.program.Arg.{Arg}
 use Rattle.micro_ops.specs.declared.program.Exit.{Exit}
+use Rattle.micro_ops.specs.declared.program.MicroOp.{MicroOp}
 use Rattle.micro_ops.specs.declared.program.Exit.TheVariants.{Next, Fixed, Computed, Choice, Service, Breakpoint}
 use Rattle.micro_ops.specs.declared.program.Micro.{Micro}
 use Rattle.micro_ops.specs.declared.program.Micro.TheVariants.{Compute, Probe, Refuse, Read, Write, Locked, Commit, Codes, SetPsw, Leave}
@@ -24,7 +27,7 @@ use Rattle.program_codegen.specs.declared.lines.Line.{Line}
 use Rattle.program_codegen.specs.declared.points.Site.{Site}
 use Rattle.program_codegen.specs.Strings.{behind_words, move_words, operands_of, steps_of as steps_of_move, string_block, string_check, string_lines, string_site}
 use Rattle.program_codegen.specs.Blocks.{chosen_lines, program_block}
-use Rattle.program_codegen.specs.Homes.{direct_end, direct_lines, direct_step, end_at, no_homes}
+use Rattle.program_codegen.specs.Homes.{direct_end, direct_lines, direct_step, either_of, end_at, next_exit, no_homes, tested_at, tested_exit}
 use Rattle.program_codegen.specs.Calls.{align_frame, call_at, call_block, call_lines, call_site, check_lines, checks_from, count_lines, displacement, entry_words, frame_of, frame_program, front_program, list_program, pushes_from, steps_of}
 use Rattle.program_codegen.specs.Words.{block_of, exit_lines, holder, lines_of, plain, point_of, points_alone, points_from, program_lines, read_by, site_of, with_entry, with_first, write_by}
 
@@ -192,9 +195,21 @@ module _ (instr : Instr) (sources : CodeSources) (before behind : Rules) (byte_w
   ends_same homes None = refl
   ends_same homes (Some end) = end_same homes end.0 end.1
 
+  tested_same : (homes : Homes) (to : ℕ) (op : MicroOp) (size : Size) (a b : Arg) (o : Option Exit) → option_and_then (tested_exit here codes homes to op size a b) o ≡ option_and_then (tested_exit there codes homes to op size a b) o
+  tested_same homes to op size a b None = refl
+  tested_same homes to op size a b (Some Next) = refl
+  tested_same homes to op size a b (Some (Fixed address)) = refl
+  tested_same homes to op size a b (Some (Computed temp)) = refl
+  tested_same homes to op size a b (Some (Choice when taken other)) = refl
+  tested_same homes to op size a b (Some (Service temp)) = refl
+  tested_same homes to op size a b (Some Breakpoint) = refl
+
   direct_same : (program : List Micro) (homes : Homes) → direct_lines here codes homes program ≡ direct_lines there codes homes program
   direct_same [] homes = refl
-  direct_same (Compute to op size a b ∷ program) homes = by (λ (h : Homes). direct_same program h) (direct_step sources homes to op size a b program)
+  direct_same (Compute to op size a b ∷ program) homes =
+      ap (λ (o : Option (List Line)). either_of o (option_and_then (λ (step : Homes × List AlphaInstr). option_map (λ (lines : List Line). map plain step.1 ++ lines) (direct_lines here codes step.0 program)) (direct_step sources homes to op size a b program)))
+      (tested_same homes to op size a b (next_exit program))
+      ∙ ap (either_of (tested_at there codes homes (Compute to op size a b) program)) (by (λ (h : Homes). direct_same program h) (direct_step sources homes to op size a b program))
     where
       by : ((h : Homes) → direct_lines here codes h program ≡ direct_lines there codes h program) → (o : Option (Homes × List AlphaInstr))
           → option_and_then (λ (step : Homes × List AlphaInstr). option_map (λ (lines : List Line). map plain step.1 ++ lines) (direct_lines here codes step.0 program)) o

@@ -1,15 +1,17 @@
 -- The words of programs that make no reference. An operand that is a VAX register is used where it stands, and the words that
 -- leave the codes come before the register that is written, so that no operand is lost before they read it.
-use Rattle.std.specs.Prelude.{◌≡◌, ℕ, ◌-◌, ◌<◌, ◌≤◌, ◌==◌, ◌&&◌, ◌||◌, not, nat_lt, Bool, true, false, List, [], ◌∷◌, ◌++◌, map, Option, Some, None, is_none, is_some, unwrap_or, option_map, option_and_then, if◌then◌else◌}
+use Rattle.std.specs.Prelude.{◌≡◌, ℕ, pos, ◌+◌, ◌-◌, ◌<◌, ◌≤◌, ◌==◌, ◌&&◌, ◌||◌, not, nat_lt, Bool, true, false, List, [], ◌∷◌, ◌++◌, length, map, Option, Some, None, is_none, is_some, unwrap_or, option_map, option_and_then, if◌then◌else◌}
 use Rattle.vax_form.specs.declared.instr.Size.{Size}
-use Rattle.vax_form.specs.declared.instr.Size.TheVariants.{Long}
+use Rattle.vax_form.specs.declared.instr.Size.TheVariants.{Byte, Long}
 use Rattle.alpha_encode.specs.declared.instr.AlphaInstr.{AlphaInstr}
-use Rattle.alpha_encode.specs.declared.instr.AlphaInstr.TheVariants.{Operate}
+use Rattle.alpha_encode.specs.declared.instr.AlphaInstr.TheVariants.{Branch, Operate}
+use Rattle.alpha_encode.specs.declared.instr.BranchOp.{BranchOp}
+use Rattle.alpha_encode.specs.declared.instr.BranchOp.TheVariants.{Beq, Blbc}
 use Rattle.alpha_encode.specs.declared.instr.OperateOp.{OperateOp}
 use Rattle.alpha_encode.specs.declared.instr.OperateOp.TheVariants as row
 use Rattle.alpha_encode.specs.declared.instr.Second.{Second}
 use Rattle.alpha_encode.specs.declared.instr.Second.TheVariants as seconds
-use Rattle.alpha_encode.specs.Registers.{CARRY_FIRST, TEMPORARIES, RULE_FIRST, RULE_SECOND, CARRY_SECOND, ZERO}
+use Rattle.alpha_encode.specs.Registers.{CARRY_FIRST, NEGATIVE, TEMPORARIES, RULE_FIRST, RULE_SECOND, CARRY_SECOND, ZERO}
 use Rattle.exception_records.specs.declared.rules.CodeRule.{CodeRule}
 use Rattle.exception_records.specs.declared.rules.CodeRule.TheVariants as rules
 use Rattle.exception_records.specs.declared.rules.Rules.{Rules}
@@ -23,14 +25,14 @@ use Rattle.micro_ops.specs.declared.program.Exit.TheVariants.{Next, Fixed, Choic
 use Rattle.micro_ops.specs.declared.program.Micro.{Micro}
 use Rattle.micro_ops.specs.declared.program.Micro.TheVariants.{Compute, Commit, Codes, Leave}
 use Rattle.micro_ops.specs.declared.program.MicroOp.{MicroOp}
-use Rattle.micro_ops.specs.declared.program.MicroOp.TheVariants.{Add, Sub, And, Or, Xor, AndNot, SignExtend, Equal, Less, LessUnsigned}
+use Rattle.micro_ops.specs.declared.program.MicroOp.TheVariants.{Add, Sub, And, Or, Xor, AndNot, SignExtend, Equal, Less, LessUnsigned, Move}
 use Rattle.compute_sequences.specs.Words.{compute_code, is_constant, is_moved, is_short}
 use Rattle.program_codegen.specs.declared.direct.Raised.{Raised}
 use Rattle.alpha_meaning.specs.Loops.{written}
 use Rattle.program_codegen.specs.declared.homes.Homes.{Homes}
 use Rattle.program_codegen.specs.declared.lines.Line.{Line}
 use Rattle.program_codegen.specs.declared.points.Site.{Site}
-use Rattle.program_codegen.specs.Words.{plain, holder, trap_lines, departing}
+use Rattle.program_codegen.specs.Words.{plain, holder, exit_lines, may_trap, trap_lines, departing}
 
 -- ---- homes
 -- Temporaries 0 to 2 may be the low longword of a register that is extended with its sign: of a VAX register, or of one of
@@ -504,12 +506,66 @@ abbrev pub ended_lines : Site → (codes : List AlphaInstr) → Homes → Micro 
 ended_lines site codes homes operation behind =
     option_and_then (λ (end : Option (ℕ × ℕ) × Exit). direct_end site codes homes end.0 end.1) (end_at site.sources operation behind)
 
+-- ---- a choice by what stands there
+-- The last computation may tell the lowest bit of a register, or a code. Then the exit is chosen by that itself.
+abbrev pub bit_register : Homes → Arg → Option ℕ
+bit_register homes (arguments.Temp temp) = if nat_lt temp 6 then Some (unwrap_or (home_of homes temp) (holder temp)) else None
+bit_register homes (arguments.Register number) = Some number
+bit_register homes arg = None
+
+abbrev pub bit_test : Homes → (a b : Arg) → Option (BranchOp × ℕ)
+bit_test homes a (arguments.Const value) = if value == 1 then option_map (λ register. (Blbc, register)) (bit_register homes a) else None
+bit_test homes a b = None
+
+abbrev pub code_test : Arg → Option (BranchOp × ℕ)
+code_test (arguments.Flag flag) = if nat_lt flag 4 then Some (Beq, NEGATIVE + flag) else None
+code_test arg = None
+
+abbrev pub byte_test : Homes → MicroOp → (a b : Arg) → Option (BranchOp × ℕ)
+byte_test homes And a b = bit_test homes a b
+byte_test homes Move a b = code_test a
+byte_test homes op a b = None
+
+-- a branch that is taken just where the computation gives 0, and its register
+abbrev pub test_of : Homes → MicroOp → Size → (a b : Arg) → Option (BranchOp × ℕ)
+test_of homes op Byte a b = byte_test homes op a b
+test_of homes op size a b = None
+
+abbrev pub choice_lines : BranchOp × ℕ → (taken other : ℕ) → List Line
+choice_lines test taken other = plain (Branch test.0 test.1 (pos 3)) ∷ (exit_lines taken ++ exit_lines other)
+
+-- no word leaves a code, and nothing traps
+abbrev pub may_test : Site → (codes : List AlphaInstr) → Homes → (to : ℕ) → MicroOp → Size → (a b : Arg) → Bool
+may_test site codes homes to op size a b =
+    nat_lt to 6 && is_direct homes to op size a b && length codes == 0 && not (may_trap site) && are_short_rules site.behind
+
+abbrev pub tested_exit : Site → (codes : List AlphaInstr) → Homes → (to : ℕ) → MicroOp → Size → (a b : Arg) → Exit → Option (List Line)
+tested_exit site codes homes to op size a b (Choice when taken other) =
+    if when == to && may_test site codes homes to op size a b
+    then option_map (λ (test : BranchOp × ℕ). map plain (waiting_words homes.waiting) ++ choice_lines test taken other) (test_of homes op size a b)
+    else None
+tested_exit site codes homes to op size a b exit = None
+
+abbrev pub next_exit : List Micro → Option Exit
+next_exit [] = None
+next_exit (operation ∷ program) = exit_of operation
+
+-- the lines from an operation on of which an exit comes next
+abbrev pub tested_at : Site → (codes : List AlphaInstr) → Homes → Micro → (behind : List Micro) → Option (List Line)
+tested_at site codes homes (Compute to op size a b) behind = option_and_then (tested_exit site codes homes to op size a b) (next_exit behind)
+tested_at site codes homes operation behind = None
+
+abbrev pub either_of : (one other : Option (List Line)) → Option (List Line)
+either_of None other = other
+either_of (Some lines) other = Some lines
+
 -- The lines of a program from an operation on; none where it makes a reference, or writes two registers, or where operands
 -- can't be used where they stand.
 abbrev pub direct_lines : Site → (codes : List AlphaInstr) → Homes → List Micro → Option (List Line)
 direct_lines site codes homes [] = None
 direct_lines site codes homes (Compute to op size a b ∷ program) =
-    option_and_then
+    either_of (tested_at site codes homes (Compute to op size a b) program)
+    (option_and_then
     (λ (step : Homes × List AlphaInstr). option_map (λ (lines : List Line). map plain step.1 ++ lines) (direct_lines site codes step.0 program))
-    (direct_step site.sources homes to op size a b program)
+    (direct_step site.sources homes to op size a b program))
 direct_lines site codes homes (operation ∷ program) = ended_lines site codes homes operation program

@@ -10,6 +10,8 @@ use crate::lines::{Line, holder, push_words};
 use crate::points::Site;
 use alpha_encode::registers::{CARRY_FIRST, CARRY_SECOND, RULE_FIRST, RULE_SECOND, TEMPORARIES};
 use crate::spared::end_words;
+use crate::tested::tested_at;
+use alpha_encode::registers::{CARRY_FIRST, CARRY_SECOND, RULE_FIRST, RULE_SECOND};
 use alpha_encode::{AlphaInstr, OperateOp, Second, operate, operate_by};
 use exception_records::{CodeRule, Rules};
 use micro_ops::{CodeSources, Exit, Micro, is_left_out};
@@ -316,7 +318,7 @@ fn is_short_rule(rule: CodeRule) -> bool
     }
 }
 
-fn are_short_rules(behind: Rules) -> bool
+pub(crate) fn are_short_rules(behind: Rules) -> bool
     ensures { result ≡ are_short_rules behind }
 {
     is_short_rule(behind.n)
@@ -337,7 +339,7 @@ fn is_wordless(sources: CodeSources, operation: Micro, behind: &[Micro]) -> bool
     }
 }
 
-fn exit_of(operation: Micro) -> Option<Exit>
+pub(crate) fn exit_of(operation: Micro) -> Option<Exit>
     ensures exit { result ≡ exit_of operation }
     ensures ranged { IsRanged operation }
 {
@@ -511,6 +513,10 @@ pub(crate) fn direct_lines(
             let Some(end) = ended_lines(alloc, site, codes, homes, program[i], behind)? else {
                 return Ok(None);
             };
+            lines.extend_from_slice(&end)?;
+            return Ok(Some(lines));
+        }
+        if let Some(end) = tested_at(alloc, site, codes, homes, program[i], behind)? {
             lines.extend_from_slice(&end)?;
             return Ok(Some(lines));
         }

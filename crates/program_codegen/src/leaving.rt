@@ -178,7 +178,7 @@ fn push_tested(
     lines.extend_from_slice(trap)
 }
 
-fn may_trap(site: Site) -> bool
+pub(crate) fn may_trap(site: Site) -> bool
     ensures { result ≡ may_trap site }
 {
     may_overflow(site.sources.nzv) && tells_overflow(site.behind.v)

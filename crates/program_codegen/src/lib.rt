@@ -15,6 +15,7 @@ mod operations;
 mod points;
 mod spared;
 mod strings;
+mod tested;
 
 pub use blocks::block;
 pub use entering::long_block;

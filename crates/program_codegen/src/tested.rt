@@ -1,0 +1,148 @@
+// Exits that are chosen by what stands in a register.
+ghost use Rattle.std.specs.Prelude.{◌≡◌, ◌++◌, ◌∷◌, IfOk, IfSome, MatchOption, OnOk, None, Some, map};
+ghost use Rattle.program_codegen.specs.Words.{plain};
+ghost use Rattle.program_codegen.specs.Homes.{bit_register, bit_test, code_test, byte_test, test_of, choice_lines, may_test, tested_exit, next_exit, tested_at, waiting_words};
+ghost use Rattle.program_codegen.specs.Programs.{IsRanged, RangedToLeave};
+
+use crate::direct::{are_short_rules, exit_of};
+use crate::homes::{Homes, home_of, is_direct, push_waiting};
+use crate::leaving::may_trap;
+use crate::lines::{Line, holder, plain, push_exit};
+use crate::points::Site;
+use alpha_encode::registers::NEGATIVE;
+use alpha_encode::{AlphaInstr, BranchOp, branch};
+use micro_ops::{Arg, Exit, Micro, MicroOp};
+use std::alloc::{AllocError, Global};
+use vax_form::Size;
+
+/// How many codes have a register.
+const CODES: u8 = 4;
+/// How many temporaries have a register.
+const TEMPORARIES_HELD: u8 = 6;
+/// The mask of the lowest bit.
+const LOWEST: u64 = 1;
+
+/// A branch, and its register.
+type Test = (BranchOp, u8);
+
+fn bit_register(homes: Homes, arg: Arg) -> Option<u8>
+    ensures { result ≡ bit_register homes arg }
+{
+    match arg {
+        Arg::Temp(temp) => {
+            if temp < TEMPORARIES_HELD {
+                Some(home_of(homes, temp).unwrap_or(holder(temp)))
+            } else {
+                None
+            }
+        }
+        Arg::Register(number) => Some(number),
+        Arg::Flag(_) | Arg::Const(_) => None,
+    }
+}
+
+fn bit_test(homes: Homes, a: Arg, b: Arg) -> Option<Test>
+    ensures { result ≡ bit_test homes a b }
+{
+    match (b, bit_register(homes, a)) {
+        (Arg::Const(LOWEST), Some(register)) => Some((BranchOp::Blbc, register)),
+        _ => None,
+    }
+}
+
+fn code_test(arg: Arg) -> Option<Test>
+    ensures { result ≡ code_test arg }
+{
+    match arg {
+        Arg::Flag(flag) => {
+            if flag < CODES {
+                Some((BranchOp::Beq, NEGATIVE + flag))
+            } else {
+                None
+            }
+        }
+        _ => None,
+    }
+}
+
+/// A branch that is taken just where the computation gives 0, and its register.
+fn test_of(homes: Homes, op: MicroOp, size: Size, a: Arg, b: Arg) -> Option<Test>
+    ensures { result ≡ test_of homes op size a b }
+{
+    match (op, size) {
+        (MicroOp::And, Size::Byte) => bit_test(homes, a, b),
+        (MicroOp::Move, Size::Byte) => code_test(a),
+        _ => None,
+    }
+}
+
+/// The branch goes over one exit to the other.
+fn push_choice(lines: &mut Vec<Line>, test: Test, taken: u32, other: u32) -> Result<(), AllocError>
+    ensures { OnOk result (lines.new.items ≡ lines.old.items ++ choice_lines test taken other) }
+{
+    let (op, register) = test;
+    lines.push(plain(branch(op, register, 3)))?;
+    push_exit(lines, taken)?;
+    push_exit(lines, other)
+}
+
+/// Whether no word leaves a code, and nothing traps.
+fn may_test(
+    site: Site,
+    codes: &[AlphaInstr],
+    homes: Homes,
+    to: u8,
+    op: MicroOp,
+    size: Size,
+    a: Arg,
+    b: Arg,
+) -> bool
+    ensures { result ≡ may_test site codes.now homes to op size a b }
+{
+    to < TEMPORARIES_HELD
+        && is_direct(homes, to, op, size, a, b)
+        && codes.is_empty()
+        && !may_trap(site)
+        && are_short_rules(site.behind)
+}
+
+fn next_exit(behind: &[Micro]) -> Option<Exit>
+    ensures exit { result ≡ next_exit behind.now }
+    ensures ranged { IfSome result (λ exit. RangedToLeave behind.now) }
+{
+    if behind.is_empty() {
+        None
+    } else {
+        exit_of(behind[0])
+    }
+}
+
+/// The lines from an operation on of which an exit comes next.
+pub(crate) fn tested_at(
+    alloc: Global,
+    site: Site,
+    codes: &[AlphaInstr],
+    homes: Homes,
+    operation: Micro,
+    behind: &[Micro],
+) -> Result<Option<Vec<Line>>, AllocError>
+    ensures lines { IfOk result (λ lines. MatchOption lines (tested_at site codes.now homes operation behind.now ≡ None) (λ made. tested_at site codes.now homes operation behind.now ≡ Some made.items)) }
+    ensures ranged { IfOk result (λ lines. IfSome lines (λ made. RangedToLeave (operation ∷ behind.now))) }
+{
+    let Micro::Compute { to, op, size, a, b } = operation else {
+        return Ok(None);
+    };
+    let Some(Exit::Choice { when, taken, other }) = next_exit(behind) else {
+        return Ok(None);
+    };
+    if when != to || !may_test(site, codes, homes, to, op, size, a, b) {
+        return Ok(None);
+    }
+    let Some(test) = test_of(homes, op, size, a, b) else {
+        return Ok(None);
+    };
+    let mut lines = Vec::new(alloc);
+    push_waiting(&mut lines, homes.waiting)?;
+    push_choice(&mut lines, test, taken, other)?;
+    Ok(Some(lines))
+}
