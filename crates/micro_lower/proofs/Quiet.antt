@@ -22,7 +22,7 @@ use Rattle.micro_ops.specs.declared.program.Micro.TheVariants.{Compute, Write, C
 use Rattle.operand_programs.specs.InOrder.{operands_program}
 use Rattle.operand_programs.specs.Operands.{access_program, operand_program, steps_behind_specifier}
 use Rattle.operand_programs.specs.Results.{cleared_program, finish_program, give_program, steps_left}
-use Rattle.operand_programs.specs.Specifiers.{sum_into, address_program, index_program, place_program, pointer_of, steps_behind, register_program, commit_one, commit_program}
+use Rattle.operand_programs.specs.Specifiers.{sum_into, address_program, index_program, place_program, pointer_of, steps_behind, low_bytes_program, register_program, commit_one, commit_program}
 use Rattle.operand_programs.specs.declared.operands.Specifier.{Specifier}
 use Rattle.micro_lower.specs.Plans.{signs_program, carry_program, overflow_temp, carry_temp, codes_program, end_program}
 use Rattle.micro_lower.specs.declared.plans.Target.{Target}
@@ -76,9 +76,12 @@ place_quiet base index size steps place spare =
     joined (address_program pointer place spare) (index_program index size (steps_behind base (bytes_of size) steps) place)
     (address_quiet pointer.register pointer.offset pointer.deferred place spare) (index_quiet index size (steps_behind base (bytes_of size) steps) place)
 
+bytes_quiet : (n : ℕ) (size : Size) (offset to : ℕ) → IsQuiet (low_bytes_program n size offset to)
+bytes_quiet n size offset to = elim (eqb_tells offset 0) [ inl is ↦ rw is.0 refl | inr not ↦ rw not.0 refl ]
+
 register_quiet : (n : ℕ) (size : Size) (steps : List ℕ) (to : ℕ) → IsQuiet (register_program n size steps to)
-register_quiet n Byte steps to = rw (sum_quiet to (Some n) (get_or steps n 0)) refl
-register_quiet n Word steps to = rw (sum_quiet to (Some n) (get_or steps n 0)) refl
+register_quiet n Byte steps to = bytes_quiet n Byte (get_or steps n 0) to
+register_quiet n Word steps to = bytes_quiet n Word (get_or steps n 0) to
 register_quiet n Long steps to = rw (sum_quiet to (Some n) (get_or steps n 0)) refl
 register_quiet n Quad steps to = rw (sum_quiet to (Some n) (get_or steps n 0), sum_quiet 4 (Some (min (n + 1) 255)) (get_or steps (min (n + 1) 255) 0)) refl
 

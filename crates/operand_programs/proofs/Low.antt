@@ -17,7 +17,7 @@ use Rattle.micro_ops.specs.Laws.{IsLowPiece}
 use Rattle.micro_ops.specs.LeftOut.{is_low}
 use Rattle.micro_ops.specs.declared.program.Micro.{Micro}
 use Rattle.micro_ops.specs.declared.program.Micro.TheVariants.{Probe, Read}
-use Rattle.operand_programs.specs.Specifiers.{sum_into, address_program, index_program, place_program, pointer_of, steps_behind, register_program, commit_one, commit_program}
+use Rattle.operand_programs.specs.Specifiers.{sum_into, address_program, index_program, place_program, pointer_of, steps_behind, low_bytes_program, register_program, commit_one, commit_program}
 use Rattle.operand_programs.specs.Operands.{access_program}
 use Rattle.operand_programs.specs.Results.{steps_left, cleared_program, give_program, steps_behind_push}
 use Rattle.operand_programs.specs.Words.{OperandIsLow, ResultIsLow, ReplacementIsLow, PushIsLow, FinishIsLow, CommitsAreLow}
@@ -52,9 +52,12 @@ place_low base index size steps place spare p s =
     joined_low (address_program (pointer_of base (bytes_of size) steps) place spare) (index_program index size (steps_behind base (bytes_of size) steps) place)
     (pointer_low (pointer_of base (bytes_of size) steps) place spare p s) (index_low index size (steps_behind base (bytes_of size) steps) place p)
 
+bytes_low : (n : ℕ) (size : Size) (offset to : ℕ) → is_low to ≡ true → IsLowPiece (low_bytes_program n size offset to)
+bytes_low n size offset to t = elim (eqb_tells offset 0) [ inl is ↦ rw (is.0, t) refl | inr not ↦ rw (not.0, t) refl ]
+
 register_low : (n : ℕ) (size : Size) (steps : List ℕ) (to : ℕ) → is_low to ≡ true → IsLowPiece (register_program n size steps to)
-register_low n Byte steps to t = rw (sum_low to (Some n) (get_or steps n 0) t, t) refl
-register_low n Word steps to t = rw (sum_low to (Some n) (get_or steps n 0) t, t) refl
+register_low n Byte steps to t = bytes_low n Byte (get_or steps n 0) to t
+register_low n Word steps to t = bytes_low n Word (get_or steps n 0) to t
 register_low n Long steps to t = rw (sum_low to (Some n) (get_or steps n 0) t) refl
 register_low n Quad steps to t = rw (sum_low to (Some n) (get_or steps n 0) t, sum_low 4 (Some (min (n + 1) 255)) (get_or steps (min (n + 1) 255) 0) refl, t) refl
 

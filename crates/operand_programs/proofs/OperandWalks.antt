@@ -21,10 +21,12 @@ use Rattle.micro_ops.specs.declared.known.Checked.TheVariants.{Nowhere, At}
 use Rattle.micro_ops.specs.declared.known.Holding.TheVariants.{Wide, Longword}
 use Rattle.micro_ops.specs.declared.known.Known.{Known}
 use Rattle.micro_ops.specs.declared.program.Arg.TheVariants.{Temp, Const}
+use Rattle.micro_ops.specs.declared.program.Arg.TheVariants as arguments
+use Rattle.std.proofs.lemmas.Bool.Decides.{eqb_tells}
 use Rattle.micro_ops.specs.declared.program.Micro.TheVariants.{Compute, Probe, Read}
 use Rattle.micro_ops.specs.declared.program.MicroOp.TheVariants as ops
 use Rattle.micro_ops.proofs.Held.{held_same, held_other, held_behind, lost_behind}
-use Rattle.operand_programs.specs.Specifiers.{sum_into, address_program, index_program, place_program, pointer_of, steps_behind, upper_half_program, register_program}
+use Rattle.operand_programs.specs.Specifiers.{sum_into, address_program, index_program, place_program, pointer_of, steps_behind, upper_half_program, low_bytes_program, register_program}
 use Rattle.operand_programs.specs.Operands.{access_program, operand_program, steps_behind_specifier, IsFor}
 use Rattle.operand_programs.specs.InOrder.{operands_program}
 use Rattle.operand_programs.specs.Registers.{BaseIsNamed, IndexIsNamed, NamesRegisters}
@@ -33,7 +35,7 @@ use Rattle.operand_programs.specs.Behind.{is_in_memory, value_holding, behind_ac
 use Rattle.operand_programs.specs.declared.operands.Specifier.{Specifier}
 use Rattle.operand_programs.specs.declared.specifiers.Pointer.{Pointer}
 use Rattle.operand_programs.proofs.More.{no_more, most, knows_itself, covers_write, covers_checked, more_write, fits_joined, knowing_less, knowing_more}
-use Rattle.operand_programs.proofs.Walking.{IsOpen, IsSettled, opens, open_write, open_checked, settled_write, lasting_settled, nothing_fits, computes, holds_it, sums, is_size_count, checked_at, checks, reads}
+use Rattle.operand_programs.proofs.Walking.{IsOpen, IsSettled, opens, open_write, open_checked, settled_write, lasting_settled, nothing_fits, computes, holds_it, register_fits as reads_register, sums, is_size_count, checked_at, checks, reads}
 
 pointer_named : (base : Base) (size : ℕ) (steps : List ℕ) → BaseIsNamed base → IndexIsNamed (pointer_of base size steps).register
 pointer_named (Deferred n) size steps named = named
@@ -166,11 +168,18 @@ module _ (codes : CodeSources) (known : Known) (s : IsSettled known) (nowhere : 
       (knowing_less codes (Compute to ops.Add Quad (Temp to) (Temp 4) ∷ []) (with_scaled to) _ (with_value to Quad) (more_write known (with_scaled to) (covers_scaled to t) to Wide)
       (computes codes (with_scaled to) to ops.Add Quad (Temp to) (Temp 4) (open_write (with_index to) 4 Wide (open_index to)).goes_on (omega (arith, t)) (holds_it (with_scaled to) to Longword (place_scaled to t) refl) refl refl)))
 
+  bytes_fit : (n : ℕ) (size : Size) (offset to : ℕ) → to < 4 → n < 15 → holding_of (leaves_longword (Compute to ops.ZeroExtend size (Temp to) (Const 0))) ≡ Longword
+      → holding_of (leaves_longword (Compute to ops.ZeroExtend size (arguments.Register n) (Const 0))) ≡ Longword → FitsBetween codes known (low_bytes_program n size offset to) (with_long to)
+  bytes_fit n size offset to t named is is' = elim (eqb_tells offset 0) [
+    | inl none ↦ rw none.0 (subst (λ h. FitsBetween codes known (Compute to ops.ZeroExtend size (arguments.Register n) (Const 0) ∷ []) (behind_write to h known)) is'
+        (computes codes known to ops.ZeroExtend size (arguments.Register n) (Const 0) s.is_open.goes_on (omega (arith, t)) (reads_register known n named (s.is_open.uncommitted n)) refl refl))
+    | inr some ↦ rw some.0 (fits_joined codes (Compute to ops.Add Long (arguments.Register n) (Const offset) ∷ []) (Compute to ops.ZeroExtend size (Temp to) (Const 0) ∷ []) known (with_long to) (with_long to)
+        (computes codes known to ops.Add Long (arguments.Register n) (Const offset) s.is_open.goes_on (omega (arith, t)) (reads_register known n named (s.is_open.uncommitted n)) refl refl) (extends to size t is))
+  ]
+
   register_fits : (n : ℕ) (size : Size) (steps : List ℕ) (to : ℕ) → to < 4 → HasRegister size n → FitsBetween codes known (register_program n size steps to) (with_value to size)
-  register_fits n Byte steps to t named =
-      fits_joined codes (sum_into to (Some n) (get_or steps n 0) ∷ []) (Compute to ops.ZeroExtend Byte (Temp to) (Const 0) ∷ []) known (with_long to) (with_long to) (first_half n steps to t named) (extends to Byte t refl)
-  register_fits n Word steps to t named =
-      fits_joined codes (sum_into to (Some n) (get_or steps n 0) ∷ []) (Compute to ops.ZeroExtend Word (Temp to) (Const 0) ∷ []) known (with_long to) (with_long to) (first_half n steps to t named) (extends to Word t refl)
+  register_fits n Byte steps to t named = bytes_fit n Byte (get_or steps n 0) to t named refl refl
+  register_fits n Word steps to t named = bytes_fit n Word (get_or steps n 0) to t named refl refl
   register_fits n Long steps to t named = first_half n steps to t named
   register_fits n Quad steps to t named =
       fits_joined codes (sum_into to (Some n) (get_or steps n 0) ∷ []) (upper_half_program (min (n + 1) 255) steps to) known (with_long to) (with_value to Quad)

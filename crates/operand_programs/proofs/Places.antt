@@ -34,7 +34,7 @@ abbrev pub sum_of_pointer : Option ℕ → (offset : ℕ) → VaxState → ℕ
 sum_of_pointer None offset state = offset % 2 ^ 32
 sum_of_pointer (Some n) offset state = (register n state + offset) % 2 ^ 32
 
-sum_twice : (value offset : ℕ) → (value % 4294967296 + offset % 4294967296) % 4294967296 ≡ (value + offset) % 4294967296
+pub sum_twice : (value offset : ℕ) → (value % 4294967296 + offset % 4294967296) % 4294967296 ≡ (value + offset) % 4294967296
 sum_twice value offset = omega arith
 
 pub sum_course : (to : ℕ) (from : Option ℕ) (offset : ℕ) (program : List Micro) (found : Found) (standing : Standing)

@@ -1,5 +1,5 @@
 -- The program of an operand that is read has its value.
-use Rattle.std.proofs.Common.{◌≡◌, ℕ, ◌+◌, ◌*◌, ◌%◌, ◌^◌, ◌<◌, eqb, false, List, ◌∷◌, ◌++◌, length, get_or, Some, refl, append_assoc, arith, inl, inr, lit<}
+use Rattle.std.proofs.Common.{◌≡◌, ℕ, ◌+◌, ◌*◌, ◌%◌, ◌^◌, ◌<◌, eqb, false, List, ◌∷◌, ◌++◌, length, get_or, Some, refl, ap, ◌∙◌, append_assoc, arith, inl, inr, lit<}
 use Rattle.std.specs.Prelude.{min}
 use Rattle.std.proofs.Math.Nat.{mod-eq_of_lt}
 use Rattle.std.proofs.lemmas.Bool.Decides.{eqb_tells}
@@ -19,14 +19,16 @@ use Rattle.vax_meaning.specs.Memory.{low_bytes}
 use Rattle.vax_meaning.specs.Operands.{locate, register_value}
 use Rattle.vax_meaning.specs.declared.evaluation.Evaluated.{Evaluated}
 use Rattle.micro_ops.specs.Meaning.{Left, Temps, Found, Standing, with_temp, with_value, course_of}
-use Rattle.micro_ops.specs.Values.{value_from}
+use Rattle.micro_ops.specs.Values.{value_from, limit_of}
+use Rattle.micro_ops.specs.declared.program.Arg.TheVariants.{Temp, Const}
+use Rattle.micro_ops.specs.declared.program.MicroOp.TheVariants as ops
 use Rattle.micro_ops.specs.declared.program.Micro.{Micro}
-use Rattle.micro_ops.specs.declared.program.Micro.TheVariants.{Probe, Read}
-use Rattle.operand_programs.specs.Specifiers.{stepped, steps_behind_operand, register_program, read_program}
+use Rattle.micro_ops.specs.declared.program.Micro.TheVariants.{Compute, Probe, Read}
+use Rattle.operand_programs.specs.Specifiers.{stepped, steps_behind_operand, low_bytes_program, register_program, read_program}
 use Rattle.operand_programs.specs.Pieces.{Agrees, IsReadable, GoesOnWith, Kept}
 use Rattle.operand_programs.proofs.Accesses.{reads_agree}
 use Rattle.operand_programs.proofs.Stepped.{register_stepped}
-use Rattle.operand_programs.proofs.Places.{with_temps, eqb_same, sum_course, place_agrees}
+use Rattle.operand_programs.proofs.Places.{with_temps, eqb_same, sum_twice, sum_course, place_agrees}
 
 pub some_bytes : (size : Size) → 0 < bytes_of size
 some_bytes Byte = lit< tt
@@ -52,19 +54,38 @@ abbrev pub GoesOnAfter : (Left → Type 0) → (Left → Tree) → List Micro �
 GoesOnAfter P end program found standing to place value tree = (temps : Temps) → temps to ≡ value → Kept to place standing.temps temps
     → Agrees P end (course_of program found (with_temps temps standing)) tree
 
+-- with a step or without, the low bytes are those of the sum
+abbrev AreLow : Size → Type 0
+AreLow size = (value offset : ℕ) → offset ≡ 0 → value % limit_of size ≡ (value + offset) % 2 ^ 32 % limit_of size
+
+low_byte : AreLow Byte
+low_byte value offset none = omega (arith, none)
+
+low_word : AreLow Word
+low_word value offset none = omega (arith, none)
+
+bytes_agree : (P : Left → Type 0) (end : Left → Tree) (program : List Micro) (found : Found) (standing : Standing) (to place n : ℕ) (size : Size) (offset : ℕ) (tree : Tree) → AreLow size
+    → GoesOnAfter P end program found standing to place ((register n found.state + offset) % 2 ^ 32 % limit_of size) tree
+    → Agrees P end (course_of (low_bytes_program n size offset to ++ program) found standing) tree
+unfolding value_from
+bytes_agree P end program found standing to place n size offset tree low goes = elim (eqb_tells offset 0) [
+  | inl is ↦ rw is.0 (goes (with_temp to (register n found.state % limit_of size) standing.temps) (rw (eqb_same to) (low (register n found.state) offset is.1)) (λ temp a b c. rw a refl))
+  | inr not ↦ rw not.0 (goes _ (rw (eqb_same to) (ap (λ v. v % limit_of size) (sum_twice (register n found.state) offset))) (λ temp a b c. rw a refl))
+]
+
 pub register_agrees : (P : Left → Type 0) (end : Left → Tree) (program : List Micro) (found : Found) (standing : Standing) (to place n : ℕ) (size : Size) (steps : List ℕ) (tree : Tree)
     → length steps ≡ length found.state.r → eqb to 4 ≡ false
     → GoesOnAfter P end program found standing to place (value_in n size steps found.state) tree
     → Agrees P end (course_of (register_program n size steps to ++ program) found standing) tree
 unfolding value_from
 register_agrees P end program found standing to place n Byte steps tree same other goes =
-    let v = (register n found.state + get_or steps n 0) % 2 ^ 32 in
-    rw (sum_course to (Some n) (get_or steps n 0) _ found standing)
-    (goes _ (rw (eqb_same to, register_stepped found.state steps n same, again v 1) refl) (λ temp a b c. rw a refl))
+    let offset = get_or steps n 0 in
+    bytes_agree P end program found standing to place n Byte offset tree low_byte
+    (λ temps at kept. goes temps (at ∙ rw (register_stepped found.state steps n same, again ((register n found.state + offset) % 2 ^ 32) 1) refl) kept)
 register_agrees P end program found standing to place n Word steps tree same other goes =
-    let v = (register n found.state + get_or steps n 0) % 2 ^ 32 in
-    rw (sum_course to (Some n) (get_or steps n 0) _ found standing)
-    (goes _ (rw (eqb_same to, register_stepped found.state steps n same, again v 2) refl) (λ temp a b c. rw a refl))
+    let offset = get_or steps n 0 in
+    bytes_agree P end program found standing to place n Word offset tree low_word
+    (λ temps at kept. goes temps (at ∙ rw (register_stepped found.state steps n same, again ((register n found.state + offset) % 2 ^ 32) 2) refl) kept)
 register_agrees P end program found standing to place n Long steps tree same other goes =
     let v = (register n found.state + get_or steps n 0) % 2 ^ 32 in
     rw (sum_course to (Some n) (get_or steps n 0) _ found standing)

@@ -15,10 +15,11 @@ use Rattle.vax_form.specs.declared.instr.Size.TheVariants.{Byte, Word, Long, Qua
 use Rattle.micro_ops.specs.Laws.{piece_words}
 use Rattle.micro_ops.specs.WordCounts.{words_of}
 use Rattle.micro_ops.specs.declared.program.Arg.TheVariants.{Const, Temp}
+use Rattle.micro_ops.specs.declared.program.Arg.TheVariants as arguments
 use Rattle.micro_ops.specs.declared.program.Micro.{Micro}
 use Rattle.micro_ops.specs.declared.program.Micro.TheVariants.{Compute, Probe, Read, Commit}
 use Rattle.micro_ops.specs.declared.program.MicroOp.TheVariants as ops
-use Rattle.operand_programs.specs.Specifiers.{sum_into, address_program, index_program, place_program, pointer_of, steps_behind, register_program, commit_one, commit_program}
+use Rattle.operand_programs.specs.Specifiers.{sum_into, address_program, index_program, place_program, pointer_of, steps_behind, low_bytes_program, register_program, commit_one, commit_program}
 use Rattle.operand_programs.specs.Operands.{access_program, steps_behind_access, IsFor}
 use Rattle.operand_programs.specs.Results.{steps_left, cleared_program, give_program, steps_behind_push}
 use Rattle.operand_programs.specs.Words.{words_of_steps, place_most, access_most, operand_most, finish_most, OperandIsShort, ResultIsShort, ReplacementIsShort, PushIsShort, FinishIsShort}
@@ -104,9 +105,13 @@ places_most base index size steps place spare =
       index_most index size (steps_behind base (bytes_of size) steps) place,
     )
 
+bytes_most : (n : ℕ) (size : Size) (offset to : ℕ) → words_of (Compute to ops.ZeroExtend size (arguments.Register n) (Const 0)) ≤ 2 → words_of (Compute to ops.ZeroExtend size (Temp to) (Const 0)) ≤ 2
+    → piece_words (low_bytes_program n size offset to) ≤ 15
+bytes_most n size offset to few few' = elim (eqb_tells offset 0) [ inl is ↦ rw is.0 (omega (arith, few)) | inr not ↦ rw not.0 (omega (arith, few')) ]
+
 register_most : (n : ℕ) (size : Size) (steps : List ℕ) (to : ℕ) → piece_words (register_program n size steps to) ≤ 15
-register_most n Byte steps to = omega (arith, sum_most to (Some n) (get_or steps n 0))
-register_most n Word steps to = omega (arith, sum_most to (Some n) (get_or steps n 0))
+register_most n Byte steps to = bytes_most n Byte (get_or steps n 0) to (lit≤ tt) (lit≤ tt)
+register_most n Word steps to = bytes_most n Word (get_or steps n 0) to (lit≤ tt) (lit≤ tt)
 register_most n Long steps to = omega (arith, sum_most to (Some n) (get_or steps n 0))
 register_most n Quad steps to = omega (arith, sum_most to (Some n) (get_or steps n 0), sum_most 4 (Some (min (n + 1) 255)) (get_or steps (min (n + 1) 255) 0))
 

@@ -86,11 +86,18 @@ upper_half_program n steps to =
     ∷ Compute to ops.Add Quad (Temp to) (Temp 4)
     ∷ []
 
+-- the low bytes of a register plus an offset
+abbrev pub low_bytes_program : (number : ℕ) → Size → (offset to : ℕ) → List Micro
+low_bytes_program n size offset to =
+    if offset == 0
+    then Compute to ops.ZeroExtend size (Register n) (Const 0) ∷ []
+    else sum_into to (Some n) offset ∷ Compute to ops.ZeroExtend size (Temp to) (Const 0) ∷ []
+
 -- the value of a register, at its size
 abbrev pub register_program : (number : ℕ) → Size → (steps : List ℕ) → (to : ℕ) → List Micro
 register_program n Long steps to = sum_into to (Some n) (slice_index steps n) ∷ []
 register_program n Quad steps to = sum_into to (Some n) (slice_index steps n) ∷ upper_half_program (min (n + 1) 255) steps to
-register_program n size steps to = sum_into to (Some n) (slice_index steps n) ∷ Compute to ops.ZeroExtend size (Temp to) (Const 0) ∷ []
+register_program n size steps to = low_bytes_program n size (slice_index steps n) to
 
 -- the value of an operand that is read goes into a temporary; its address goes into the place
 abbrev pub read_program : Operand → Size → (steps : List ℕ) → (to place : ℕ) → List Micro

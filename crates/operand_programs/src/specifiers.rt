@@ -2,7 +2,7 @@
 ghost use Rattle.std.specs.Prelude.{◌≡◌, ◌≤◌, ◌++◌, [], IfOk, OnErr, OnOk, ◌*◌, length, slice_index, All, ◌<◌};
 ghost use Rattle.vax_form.specs.Size.{bytes_of};
 ghost use Rattle.operand_programs.specs.Fronts.{IsFrontOf};
-ghost use Rattle.operand_programs.specs.Specifiers.{with_step, steps_behind, pointer_of, sum_into, address_program, scaled, index_program, place_program, steps_behind_operand, upper_half_program, register_program, read_program};
+ghost use Rattle.operand_programs.specs.Specifiers.{with_step, steps_behind, pointer_of, sum_into, address_program, scaled, index_program, place_program, steps_behind_operand, upper_half_program, low_bytes_program, register_program, read_program};
 
 use micro_ops::{Arg, Micro, MicroOp};
 use std::alloc::AllocError;
@@ -193,6 +193,39 @@ pub(crate) fn put_place(
     put_index(program, index, size, steps, place)
 }
 
+/// The low bytes of an argument.
+fn low_bytes(to: u8, size: Size, a: Arg) -> Micro
+    ensures { result ≡ Micro.Compute to MicroOp.ZeroExtend size a (Arg.Const 0) }
+{
+    Micro::Compute {
+        to,
+        op: MicroOp::ZeroExtend,
+        size,
+        a,
+        b: Arg::Const(0),
+    }
+}
+
+/// The low bytes of a register plus an offset.
+fn put_low_bytes(
+    program: &mut Vec<Micro>,
+    number: u8,
+    size: Size,
+    offset: u32,
+    to: u8,
+) -> Result<(), AllocError>
+    ensures program { OnOk result (program.new.items ≡ program.old.items ++ low_bytes_program number size offset to) }
+    ensures refused { OnErr result (IsFrontOf program.old.items program.new.items) }
+{
+    if offset == 0 {
+        program.push(low_bytes(to, size, Arg::Register(number)))?;
+    } else {
+        program.push(sum_into(to, Some(number), offset))?;
+        program.push(low_bytes(to, size, Arg::Temp(to)))?;
+    }
+    Ok(())
+}
+
 /// The value of a register, at its size.
 pub(crate) fn put_register(
     program: &mut Vec<Micro>,
@@ -204,17 +237,14 @@ pub(crate) fn put_register(
     ensures program { OnOk result (program.new.items ≡ program.old.items ++ register_program number size steps.now to) }
     ensures refused { OnErr result (IsFrontOf program.old.items program.new.items) }
 {
-    program.push(sum_into(to, Some(number), step(steps, number)))?;
+    let offset = step(steps, number);
     match size {
-        Size::Byte | Size::Word => program.push(Micro::Compute {
-            to,
-            op: MicroOp::ZeroExtend,
-            size,
-            a: Arg::Temp(to),
-            b: Arg::Const(0),
-        })?,
-        Size::Long => {}
-        Size::Quad => put_upper_half(program, number.saturating_add(1), steps, to)?,
+        Size::Byte | Size::Word => put_low_bytes(program, number, size, offset, to)?,
+        Size::Long => program.push(sum_into(to, Some(number), offset))?,
+        Size::Quad => {
+            program.push(sum_into(to, Some(number), offset))?;
+            put_upper_half(program, number.saturating_add(1), steps, to)?
+        }
     }
     Ok(())
 }
