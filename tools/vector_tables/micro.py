@@ -148,7 +148,7 @@ abbrev Leaves : CodeSources → (left : ℕ) → Temps → Type 0
 Leaves codes left temps = SignsComeFrom codes.nzv 0xF left temps × CarryComesFrom codes.c 0xF left temps
 """
 LIMITS = {"B": 8, "W": 16, "L": 32, "Q": 64}
-SIGNS = {"Kept": "(refl, refl, refl)", "Result": "({0}, refl, (refl, refl, refl))", "Sum": "(({0}, {1}), refl, (refl, refl, refl))",
+SIGNS = {"Kept": "(refl, refl, refl)", "Result": "({2}, (refl, refl, refl))", "Sum": "(({0}, {1}), refl, (refl, refl, refl))",
          "Compare": "(({0}, {1}), (refl, refl, refl))", "Computed": "({2}, refl, refl, refl)", "Psw": "refl"}
 CARRIES = {"Sum": "(({0}, {1}), refl)", "Compare": "(({0}, {1}), refl)"}
 # instructions by the form of their sources, and the length of their result where their name does not end with it

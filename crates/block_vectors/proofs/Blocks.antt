@@ -52,10 +52,10 @@ row3 : spelled (block false (sources_of (op.SubtractOneBranch false)) ((Compute 
 unfolding sources_of
 row3 = refl
 
-row4 : spelled (block true (sources_of (op.Move sizes.Byte)) ((Compute 1 compute.Move sizes.Long (Register 1) (Const 0)) ∷ (Probe 1 1 false) ∷ (Read 0 1 1) ∷ (Compute 3 compute.Move sizes.Long (Register 2) (Const 0)) ∷ (Probe 3 1 true) ∷ (Write 3 1 0) ∷ (Leave Next) ∷ []) (codes false false false false)) ≡ (0x4821F636 ∷ 0x46C0141B ∷ 0x00000080 ∷ 0x2AB60000 ∷ 0x4841F638 ∷ 0x4700141B ∷ 0x00000080 ∷ 0x3AB80000 ∷ 0x47F5041C ∷ 0x47FF041F ∷ 0x47FF041F ∷ 0x47FF041F ∷ [], (0x9, 0x204) ∷ [], point 0x0 0 0 false 0x0 all_ready ∷ point 0x2 0 1 false 0x0 all_ready ∷ point 0x6 0 1 true 0x0 all_ready ∷ [])
+row4 : spelled (block true (sources_of (op.Move sizes.Byte)) ((Compute 1 compute.Move sizes.Long (Register 1) (Const 0)) ∷ (Probe 1 1 false) ∷ (Read 2 1 1) ∷ (Compute 3 compute.Move sizes.Long (Register 2) (Const 0)) ∷ (Probe 3 1 true) ∷ (Write 3 1 2) ∷ (Leave Next) ∷ []) (codes false false false false)) ≡ (0x4821F636 ∷ 0x46C0141B ∷ 0x00000080 ∷ 0x2AF60000 ∷ 0x4841F638 ∷ 0x4700141B ∷ 0x00000080 ∷ 0x3AF80000 ∷ 0x47F7041C ∷ 0x47FF041F ∷ 0x47FF041F ∷ 0x47FF041F ∷ [], (0x9, 0x204) ∷ [], point 0x0 0 0 false 0x0 all_ready ∷ point 0x2 0 1 false 0x0 all_ready ∷ point 0x6 0 1 true 0x0 all_ready ∷ [])
 unfolding sources_of
 row4 = refl
 
-row5 : spelled (block true (sources_of (op.Move sizes.Word)) ((Compute 1 compute.Move sizes.Long (Register 1) (Const 0)) ∷ (Probe 1 2 false) ∷ (Read 0 1 2) ∷ (Compute 3 compute.Move sizes.Long (Register 2) (Const 0)) ∷ (Probe 3 2 true) ∷ (Write 3 2 0) ∷ (Leave Next) ∷ []) (codes false false false false)) ≡ (0x4821F636 ∷ 0x46C0141B ∷ 0x00000080 ∷ 0xF2C00002 ∷ 0x32B60000 ∷ 0xC3E00009 ∷ 0x46C0F01A ∷ 0x4340F3BA ∷ 0x2F360000 ∷ 0x4B3602D9 ∷ 0xF7400003 ∷ 0x2F560001 ∷ 0x4B560B5A ∷ 0x473A0419 ∷ 0x47201415 ∷ 0x4841F638 ∷ 0x4700141B ∷ 0x00000080 ∷ 0xF3000002 ∷ 0x36B80000 ∷ 0xC3E00011 ∷ 0x4700F11B ∷ 0xAF3B0000 ∷ 0x4B380259 ∷ 0x4AB8037A ∷ 0x473A0419 ∷ 0xBF3B0000 ∷ 0xE73FFFFA ∷ 0x4700F019 ∷ 0x4320F3B9 ∷ 0xF7200007 ∷ 0x4361141B ∷ 0xAF3B0000 ∷ 0x4B380A59 ∷ 0x4AB80AFA ∷ 0x473A0419 ∷ 0xBF3B0000 ∷ 0xE73FFFFA ∷ 0x47F5041C ∷ 0x47FF041F ∷ 0x47FF041F ∷ 0x47FF041F ∷ [], (0x27, 0x204) ∷ [], point 0x0 0 0 false 0x0 all_ready ∷ point 0x2 0 2 false 0x0 all_ready ∷ point 0x11 0 2 true 0x0 all_ready ∷ [])
+row5 : spelled (block true (sources_of (op.Move sizes.Word)) ((Compute 1 compute.Move sizes.Long (Register 1) (Const 0)) ∷ (Probe 1 2 false) ∷ (Read 2 1 2) ∷ (Compute 3 compute.Move sizes.Long (Register 2) (Const 0)) ∷ (Probe 3 2 true) ∷ (Write 3 2 2) ∷ (Leave Next) ∷ []) (codes false false false false)) ≡ (0x4821F636 ∷ 0x46C0141B ∷ 0x00000080 ∷ 0xF2C00002 ∷ 0x32F60000 ∷ 0xC3E00009 ∷ 0x46C0F01A ∷ 0x4340F3BA ∷ 0x2F360000 ∷ 0x4B3602D9 ∷ 0xF7400003 ∷ 0x2F560001 ∷ 0x4B560B5A ∷ 0x473A0419 ∷ 0x47201417 ∷ 0x4841F638 ∷ 0x4700141B ∷ 0x00000080 ∷ 0xF3000002 ∷ 0x36F80000 ∷ 0xC3E00011 ∷ 0x4700F11B ∷ 0xAF3B0000 ∷ 0x4B380259 ∷ 0x4AF8037A ∷ 0x473A0419 ∷ 0xBF3B0000 ∷ 0xE73FFFFA ∷ 0x4700F019 ∷ 0x4320F3B9 ∷ 0xF7200007 ∷ 0x4361141B ∷ 0xAF3B0000 ∷ 0x4B380A59 ∷ 0x4AF80AFA ∷ 0x473A0419 ∷ 0xBF3B0000 ∷ 0xE73FFFFA ∷ 0x47F7041C ∷ 0x47FF041F ∷ 0x47FF041F ∷ 0x47FF041F ∷ [], (0x27, 0x204) ∷ [], point 0x0 0 0 false 0x0 all_ready ∷ point 0x2 0 2 false 0x0 all_ready ∷ point 0x11 0 2 true 0x0 all_ready ∷ [])
 unfolding sources_of
 row5 = refl

@@ -22,7 +22,7 @@ use Rattle.flag_codegen.proofs.Values.{Hold, moved}
 
 -- two numbers are the operands that the rule of the source needs
 abbrev pub AreOperands : CodeSource → (first second : ℕ) → Temps → Type 0
-AreOperands (Result size) first second temps = first ≡ temps 0
+AreOperands (Result size) first second temps = first ≡ temps 2
 AreOperands (Add size) first second temps = (first ≡ temps 0) × (second ≡ temps 1)
 AreOperands (Sub size) first second temps = (first ≡ temps 0) × (second ≡ temps 1)
 AreOperands (Compare size) first second temps = (first ≡ temps 0) × (second ≡ temps 1)
@@ -31,7 +31,7 @@ AreOperands source first second temps = Unit {0}
 pub operands_kept : (source : CodeSource) (k : Regs) (temps : Temps) → Hold k temps → let kept = effects (operand_words source 28 29) k in AreOperands source (kept 28) (kept 29) temps
 operands_kept Kept k temps hold = tt
 operands_kept Zero k temps hold = tt
-operands_kept (Result size) k temps hold = moved (k 31) (k 21) (temps 0) hold.zero hold.first
+operands_kept (Result size) k temps hold = moved (k 31) (k 23) (temps 2) hold.zero hold.result
 operands_kept (Add size) k temps hold = (moved (k 31) (k 21) (temps 0) hold.zero hold.first, moved (k 31) (k 22) (temps 1) hold.zero hold.second)
 operands_kept (Sub size) k temps hold = (moved (k 31) (k 21) (temps 0) hold.zero hold.first, moved (k 31) (k 22) (temps 1) hold.zero hold.second)
 operands_kept (Compare size) k temps hold = (moved (k 31) (k 21) (temps 0) hold.zero hold.first, moved (k 31) (k 22) (temps 1) hold.zero hold.second)
@@ -41,7 +41,7 @@ operands_kept Psw k temps hold = tt
 pub carry_operands_kept : (source : CodeSource) (k : Regs) (temps : Temps) → Hold k temps → let kept = effects (operand_words source 15 30) k in AreOperands source (kept 15) (kept 30) temps
 carry_operands_kept Kept k temps hold = tt
 carry_operands_kept Zero k temps hold = tt
-carry_operands_kept (Result size) k temps hold = moved (k 31) (k 21) (temps 0) hold.zero hold.first
+carry_operands_kept (Result size) k temps hold = moved (k 31) (k 23) (temps 2) hold.zero hold.result
 carry_operands_kept (Add size) k temps hold = (moved (k 31) (k 21) (temps 0) hold.zero hold.first, moved (k 31) (k 22) (temps 1) hold.zero hold.second)
 carry_operands_kept (Sub size) k temps hold = (moved (k 31) (k 21) (temps 0) hold.zero hold.first, moved (k 31) (k 22) (temps 1) hold.zero hold.second)
 carry_operands_kept (Compare size) k temps hold = (moved (k 31) (k 21) (temps 0) hold.zero hold.first, moved (k 31) (k 22) (temps 1) hold.zero hold.second)
@@ -58,7 +58,7 @@ two_held codes size r s t u e e' lt lt' = ap (λ n. codes n (low size s)) (held_
 -- by the operands themselves
 abbrev pub codes_told : CodeSource → Temps → Flags
 codes_told Zero temps = none
-codes_told (Result size) temps = codes_of (coded_value (bytes_of size) (temps 0) false false)
+codes_told (Result size) temps = codes_of (coded_value (bytes_of size) (temps 2) false false)
 codes_told (Add size) temps = codes_of (sum size temps)
 codes_told (Sub size) temps = codes_of (difference size temps)
 codes_told (Compare size) temps = codes_of (comparison_of size (temps 0) (temps 1))
@@ -67,7 +67,7 @@ codes_told source temps = none
 module _ (temps : Temps) (found left first second : ℕ) where
   told : (source : CodeSource) → AreOperands source first second temps → SignsComeFrom source found left temps → codes_by (rule_of source) first second ≡ codes_told source temps
   told Zero are h = refl
-  told (Result size) are h = ap (λ n. codes_of (coded_value (bytes_of size) n false false)) (held_low size first (temps 0) are h.0)
+  told (Result size) are h = ap (λ n. codes_of (coded_value (bytes_of size) n false false)) (held_low size first (temps 2) are h.0)
   told (Add size) are h = two_held (sum_codes size) size first second (temps 0) (temps 1) are.0 are.1 h.0.0 h.0.1
   told (Sub size) are h = two_held (difference_codes size) size first second (temps 0) (temps 1) are.0 are.1 h.0.0 h.0.1
   told (Compare size) are h = two_held (comparison_codes size) size first second (temps 0) (temps 1) are.0 are.1 h.0.0 h.0.1
@@ -79,7 +79,7 @@ module _ (temps : Temps) (found left first second : ℕ) where
 
   negative_of : (source : CodeSource) → is_ready (rule_of source) ≡ false → SignsComeFrom source found left temps → (codes_told source temps).n ≡ (flag_of 0 left == 1)
   negative_of Zero w h = by_bit false (flag_of 0 left) h.0
-  negative_of (Result size) w h = by_bit _ (flag_of 0 left) h.2.0
+  negative_of (Result size) w h = by_bit _ (flag_of 0 left) h.1.0
   negative_of (Add size) w h = by_bit _ (flag_of 0 left) h.2.0
   negative_of (Sub size) w h = by_bit _ (flag_of 0 left) h.2.0
   negative_of (Compare size) w h = by_bit _ (flag_of 0 left) h.1.0
@@ -87,7 +87,7 @@ module _ (temps : Temps) (found left first second : ℕ) where
 
   zero_of : (source : CodeSource) → is_ready (rule_of source) ≡ false → SignsComeFrom source found left temps → (codes_told source temps).z ≡ (flag_of 1 left == 1)
   zero_of Zero w h = by_bit false (flag_of 1 left) h.1
-  zero_of (Result size) w h = by_bit _ (flag_of 1 left) h.2.1
+  zero_of (Result size) w h = by_bit _ (flag_of 1 left) h.1.1
   zero_of (Add size) w h = by_bit _ (flag_of 1 left) h.2.1
   zero_of (Sub size) w h = by_bit _ (flag_of 1 left) h.2.1
   zero_of (Compare size) w h = by_bit _ (flag_of 1 left) h.1.1
@@ -95,7 +95,7 @@ module _ (temps : Temps) (found left first second : ℕ) where
 
   overflow_of : (source : CodeSource) → is_ready (rule_of source) ≡ false → SignsComeFrom source found left temps → (codes_told source temps).v ≡ (flag_of 2 left == 1)
   overflow_of Zero w h = by_bit false (flag_of 2 left) h.2
-  overflow_of (Result size) w h = by_bit _ (flag_of 2 left) h.2.2
+  overflow_of (Result size) w h = by_bit _ (flag_of 2 left) h.1.2
   overflow_of (Add size) w h = by_bit _ (flag_of 2 left) h.2.2
   overflow_of (Sub size) w h = by_bit _ (flag_of 2 left) h.2.2
   overflow_of (Compare size) w h = by_bit _ (flag_of 2 left) h.1.2

@@ -80,7 +80,7 @@ module _ (k : Regs) (temps : Temps) (found left : ℕ) (hold : Hold k temps) whe
   unfolding sum_of difference_of
   negative_is Kept w h = absurd (cc w)
   negative_is Zero w h = cleared (k 31) hold.zero ∙ sym h.0
-  negative_is (Result size) w h = signed_by size (k 23) (temps 0) (hold.result ∙ h.1) h.0 ∙ sym h.2.0
+  negative_is (Result size) w h = signed_by size (k 23) (temps 2) hold.result h.0 ∙ sym h.1.0
   negative_is (Add size) w h = signed_by size (k 23) (sum size temps).value (hold.result ∙ h.1) (sum_fits size (temps 0) (temps 1)) ∙ sym h.2.0
   negative_is (Sub size) w h = signed_by size (k 23) (difference size temps).value (hold.result ∙ h.1) (difference_fits size (temps 0) (temps 1)) ∙ sym h.2.0
   negative_is (Compare size) w h = less_by size (k 21) (k 22) (temps 0) (temps 1) hold.first hold.second h.0.0 h.0.1 ∙ sym h.1.0
@@ -91,7 +91,7 @@ module _ (k : Regs) (temps : Temps) (found left : ℕ) (hold : Hold k temps) whe
   unfolding sum_of difference_of
   zero_is Kept w h = absurd (cc w)
   zero_is Zero w h = cleared (k 31) hold.zero ∙ sym h.1
-  zero_is (Result size) w h = ap (λ n. one_if (n == 0)) (hold.result ∙ h.1) ∙ sym h.2.1
+  zero_is (Result size) w h = ap (λ n. one_if (n == 0)) hold.result ∙ sym h.1.1
   zero_is (Add size) w h = ap (λ n. one_if (n == 0)) (hold.result ∙ h.1) ∙ sym h.2.1
   zero_is (Sub size) w h = ap (λ n. one_if (n == 0)) (hold.result ∙ h.1) ∙ sym h.2.1
   zero_is (Compare size) w h = ap (λ n. one_if (n == k 22)) hold.first ∙ (ap (λ n. one_if (temps 0 == n)) hold.second ∙ sym h.1.1)
@@ -101,7 +101,7 @@ module _ (k : Regs) (temps : Temps) (found left : ℕ) (hold : Hold k temps) whe
   pub overflow_is : (source : CodeSource) → is_written source ≡ true → k 24 ≡ temps 3 → SignsComeFrom source found left temps → effects (overflow_words source) k 18 ≡ flag_of 2 left
   overflow_is Kept w t h = absurd (cc w)
   overflow_is Zero w t h = cleared (k 31) hold.zero ∙ sym h.2
-  overflow_is (Result size) w t h = cleared (k 31) hold.zero ∙ sym h.2.2
+  overflow_is (Result size) w t h = cleared (k 31) hold.zero ∙ sym h.1.2
   overflow_is (Add size) w t h =
       let value = (sum size temps).value in
       unlike_by size (k 23) (k 21) (k 22) value (temps 0) (temps 1) (hold.result ∙ h.1) hold.first hold.second (sum_fits size (temps 0) (temps 1)) h.0.0 h.0.1

@@ -119,7 +119,7 @@ carry_words Psw = Operate row.And result (Literal 1) carry ∷ []
 abbrev pub operand_words : CodeSource → (first_kept second_kept : ℕ) → List AlphaInstr
 operand_words Kept a b = []
 operand_words Zero a b = []
-operand_words (Result size) a b = move first a ∷ []
+operand_words (Result size) a b = move result a ∷ []
 operand_words (Add size) a b = move first a ∷ move second b ∷ []
 operand_words (Sub size) a b = move first a ∷ move second b ∷ []
 operand_words (Compare size) a b = move first a ∷ move second b ∷ []

@@ -111,7 +111,7 @@ fn push_operands(
     ensures { OnOk result (words.new.items ≡ words.old.items ++ operand_words source first second) }
 {
     match source {
-        CodeSource::Result(_) => words.push(move_to(FIRST, first))?,
+        CodeSource::Result(_) => words.push(move_to(RESULT, first))?,
         CodeSource::Add(_) | CodeSource::Sub(_) | CodeSource::Compare(_) => {
             words.extend_from_slice(&[move_to(FIRST, first), move_to(SECOND, second)])?
         }

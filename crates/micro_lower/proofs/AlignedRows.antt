@@ -169,7 +169,7 @@ module _ (instr : Instr) (n : ℕ) (is : operation_at instr.opcode ≡ Some oper
   joined_programs : operands_program (modified_operands (operands.Register n)) no_steps ++ register_rest ≡ operands_program (first_operand ∷ []) no_steps ++ (reading ++ register_rest)
   joined_programs =
       let first = operand_program first_operand no_steps in
-      append_assoc first reading register_rest ∙ ap (λ (p : List Micro). p ++ (reading ++ register_rest)) (sym (append-nil first))
+      ap (λ (p : List Micro). (first ++ p) ++ register_rest) (append-nil reading) ∙ append_assoc first reading register_rest ∙ ap (λ (p : List Micro). p ++ (reading ++ register_rest)) (sym (append-nil first))
 
   pub register_does : IsPlaced first_operand → AreOperandsOf (written_operands (operand instr 1)) (evaluated_row operations.AddAlignedWord) instr
       → Does sum_codes instr (program_of sum_codes plan_here instr)

@@ -147,9 +147,8 @@ module _ (size : Size) (start : VaxState) (found : Found) (temps : Temps) (narro
   abbrev pub coded_by : BinaryOperation → Coded
   coded_by operation = binary_value operation size start (temps 1 % limit_of size) (temps 0 % limit_of size)
 
-  logical : (value : ℕ) → value < limit_of size → temps 2 ≡ value → ReadyFor (Result size) Kept start.psw (effect (unary 0 ops.Move size (Temp 2) ∷ []) found temps) (value_coded start size value)
-  unfolding value_from
-  logical value fits made = result_ready size start value (effect (unary 0 ops.Move size (Temp 2) ∷ []) found temps) fits (ap (λ n. n % limit_of size) made ∙ mod-eq_of_lt fits) made
+  logical : (value : ℕ) → value < limit_of size → temps 2 ≡ value → ReadyFor (Result size) Kept start.psw temps (value_coded start size value)
+  logical value fits made = result_ready size start value temps fits made
 
   pub ready : (operation : BinaryOperation) → divides operation ≡ false → temps 2 ≡ (coded_by operation).value
       → binary_ready operation size start (effect (behind_binary operation size) found temps) (coded_by operation)
@@ -192,7 +191,7 @@ kept_result binary.Divide size found temps none = cc
 kept_result operation size found temps none = refl
 
 all_compute : (operation : BinaryOperation) (size : Size) → list_all is_computation (behind_binary operation size) ≡ true
-all_compute binary.Add size = refl
+all_compute binary.Multiply size = refl
 all_compute operation size = refl
 
 pub two_operands_all : (operation : BinaryOperation) (width : Width) (instr : Instr) → divides operation ≡ false → IsGivable (operand instr 1) (size_of width)

@@ -256,14 +256,11 @@ shifted_below false y lt = lit< tt
 right_below : (x k : ℕ) → x < 4294967296 → x / 2 ^ k < 4294967296
 right_below x k lt = let le = shr_le x k in omega (arith, le, lt)
 
-abbrev copied : List Micro
-copied = unary 0 ops.Move Long (Temp 2) ∷ []
-
 -- by a count that is computed
-counted_all : (instr : Instr) → IsGivable (operand instr 2) Long → AllDo operations.Rotate instr (shift_plan_with rotated_program copied instr)
+counted_all : (instr : Instr) → IsGivable (operand instr 2) Long → AllDo operations.Rotate instr (shift_plan_with rotated_program [] instr)
 unfolding body give sources_of value_from
 counted_all instr givable state pages thread temps values ok same left =
-    let plan = shift_plan_with rotated_program copied instr in
+    let plan = shift_plan_with rotated_program [] instr in
     let found = found_at state instr.after in
     let after = effect plan.before found temps in
     let k = temps 0 % 256 % 32 in
@@ -273,7 +270,7 @@ counted_all instr givable state pages thread temps values ok same left =
     let fits : v < 2 ^ 32 = subst (λ n. n < 2 ^ 32) made (or_lt 32 _ _ (shifted_below _ _ (low_below Long _)) (shifted_below _ _ (right_below x _ (low_below Long _)))) in
     read_twice_and_write values temps (BodyDoes operations.Rotate instr plan state pages thread temps) Byte Long Long (operand instr 0) (operand instr 1) (operand instr 2) 0 1 1 2 left (λ location count source at.
     gives_as (Result Long) Kept state pages thread instr.after ok Long (operand instr 2) (steps_of plan.slots instr) same location (value_coded state Long v) after plan.behind refl
-    at givable made fits refl (result_ready Long state v (effect plan.behind found after) fits (ap (λ n. n % 2 ^ 32) made ∙ mod-eq_of_lt fits) made) Next tt instr.after refl
+    at givable made fits refl (result_ready Long state v after fits made) Next tt instr.after refl
     (value_end pages Long v instr.after) (value_ends pages state Long v instr.after))
 
 -- by a literal count
@@ -281,10 +278,10 @@ literal_number : (n : ℕ) → n % 256 % 256 % 32 ≡ n % 32
 literal_number n = omega arith
 
 literal_all : (instr : Instr) (literal : ℕ) → operand instr 0 ≡ operands.Value literal → IsGivable (operand instr 2) Long
-    → AllDo operations.Rotate instr (shift_plan_with (rotated_by (literal % 32)) copied instr)
+    → AllDo operations.Rotate instr (shift_plan_with (rotated_by (literal % 32)) [] instr)
 unfolding body give sources_of value_from
 literal_all instr literal here givable state pages thread temps values ok same left =
-    let plan = shift_plan_with (rotated_by (literal % 32)) copied instr in
+    let plan = shift_plan_with (rotated_by (literal % 32)) [] instr in
     let found = found_at state instr.after in
     let after = effect plan.before found temps in
     let k = literal % 32 in
@@ -296,13 +293,13 @@ literal_all instr literal here givable state pages thread temps values ok same l
     let fits : v < 2 ^ 32 = subst (λ n. n < 2 ^ 32) made (or_lt 32 _ _ (shifted_below _ _ (low_below Long _)) (shifted_below _ _ (right_below x _ (low_below Long _)))) in
     read_twice_and_write values temps (BodyDoes operations.Rotate instr plan state pages thread temps) Byte Long Long (operand instr 0) (operand instr 1) (operand instr 2) 0 1 1 2 left (λ location count source at.
     gives_as (Result Long) Kept state pages thread instr.after ok Long (operand instr 2) (steps_of plan.slots instr) same location (value_coded state Long v) after plan.behind refl
-    at givable made fits refl (result_ready Long state v (effect plan.behind found after) fits (ap (λ n. n % 2 ^ 32) made ∙ mod-eq_of_lt fits) made) Next tt instr.after refl
+    at givable made fits refl (result_ready Long state v after fits made) Next tt instr.after refl
     (value_end pages Long v instr.after) (value_ends pages state Long v instr.after))
 
 pub rotate_all : (instr : Instr) → IsGivable (operand instr 2) Long → AllDo operations.Rotate instr (rotate_plan instr)
 rotate_all instr givable = by_count (operand instr 0) refl
   where
-    by_count : (count : Operand) → operand instr 0 ≡ count → AllDo operations.Rotate instr (shift_plan_with (before_rotation count) copied instr)
+    by_count : (count : Operand) → operand instr 0 ≡ count → AllDo operations.Rotate instr (shift_plan_with (before_rotation count) [] instr)
     by_count (operands.Value literal) is = literal_all instr literal is givable
     by_count operands.Unused is = counted_all instr givable
     by_count (operands.Register n) is = counted_all instr givable

@@ -62,8 +62,8 @@ given_core (InRegister n) Quad value steps start = refl
 
 -- the codes do not come from temporary 5
 pub still_ready : (nzv c : CodeSource) (psw : ℕ) (before after : Temps) (coded : Coded) → KeptBut5 before after → ReadyFor nzv c psw before coded → ReadyFor nzv c psw after coded
-still_ready (sources.Result size) sources.Kept psw before after coded kept ready = rw (kept 0 refl, kept 2 refl) ready
-still_ready (sources.Result size) sources.Zero psw before after coded kept ready = rw (kept 0 refl, kept 2 refl) ready
+still_ready (sources.Result size) sources.Kept psw before after coded kept ready = rw (kept 2 refl) ready
+still_ready (sources.Result size) sources.Zero psw before after coded kept ready = rw (kept 2 refl) ready
 still_ready (sources.Add size) (sources.Add other) psw before after coded kept ready = rw (kept 0 refl, kept 1 refl, kept 2 refl) ready
 still_ready (sources.Sub size) (sources.Sub other) psw before after coded kept ready = rw (kept 0 refl, kept 1 refl, kept 2 refl) ready
 still_ready (sources.Compare size) (sources.Compare other) psw before after coded kept ready = rw (kept 0 refl, kept 1 refl) ready

@@ -77,7 +77,7 @@ module _ (nzv c : CodeSource) (start : VaxState) (pages : Pages) (thread after :
         replaces (from nzv c) start pages thread after ok close end (IsReady nzv c start after coded exit pc) (closes_coded nzv c start pages thread after coded exit pc end ends)
         behind all operand size steps location coded.value temps same at givable is fits kept (record { low = low; goes = goes; ready = ready })
 
--- N and Z by a value in 0 and 2, V 0, and C kept
-pub result_ready : (size : Size) (start : VaxState) (value : ℕ) (temps : Temps) → value < limit_of size → temps 0 ≡ value → temps 2 ≡ value
+-- N and Z by a value in 2, V 0, and C kept
+pub result_ready : (size : Size) (start : VaxState) (value : ℕ) (temps : Temps) → value < limit_of size → temps 2 ≡ value
     → ReadyFor (Result size) Kept start.psw temps (value_coded start size value)
-result_ready size start value temps fits zero two = (((rw zero fits, rw zero refl, rw zero refl), two ∙ sym zero, refl), carry_is start.psw)
+result_ready size start value temps fits two = (((rw two fits, rw two refl, rw two refl), refl), carry_is start.psw)

@@ -169,7 +169,7 @@ jump_to_subroutine_all instr computed within state pages thread temps values ok 
 -- ---- fixed targets
 -- the operand is the address, without a reference
 module _ (operation : Operation) (instr : Instr) (plan : Plan) (target : ℕ) (lt : target < 2 ^ 32) (is : operation_at instr.opcode ≡ Some operation)
-    (slots : plan.slots ≡ addressed Byte ∷ []) (fixed : operand instr 0 ≡ operands.Place (bases.Fixed target false) None)
+    (slots : plan.slots ≡ addressed Byte 0 ∷ []) (fixed : operand instr 0 ≡ operands.Place (bases.Fixed target false) None)
     (are : AreOperandsOf (specifiers_from 0 plan.slots instr) (evaluated_row operation) instr) where
   pub fixed_does : ((state : VaxState) (pages : Pages) (thread : ℕ) → IsState state → length (steps_of plan.slots instr) ≡ length state.r
       → BodyDoes operation instr plan state pages thread (with_temp 0 target no_temps) (address target ∷ [])) → Does (sources_of operation) instr (program_of (sources_of operation) plan instr)

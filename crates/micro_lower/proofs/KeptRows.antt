@@ -210,7 +210,7 @@ shift_inner set (operands.Register n) = refl
 shift_inner set (operands.Place base index) = refl
 shift_inner set (operands.Target address) = refl
 
-rotation_inner : (set : Flags) (count : Operand) → IsInner set (before_rotation count ++ unary 0 ops.Move Long (Temp 2) ∷ [])
+rotation_inner : (set : Flags) (count : Operand) → IsInner set (before_rotation count ++ [])
 rotation_inner set (operands.Value literal) = refl
 rotation_inner set operands.Unused = refl
 rotation_inner set (operands.Register n) = refl

@@ -21,7 +21,7 @@ use Rattle.micro_ops.specs.declared.program.Exit.TheVariants.{Next}
 use Rattle.micro_lower.specs.Rows.{move_plan}
 use Rattle.micro_lower.proofs.Coding.{plain_end}
 use Rattle.micro_lower.proofs.Endings.{found_at}
-use Rattle.micro_lower.proofs.Planned.{AllDo, BodyDoes, read_and_write}
+use Rattle.micro_lower.proofs.Planned.{AllDo, BodyDoes, read_and_write, read_and_place}
 use Rattle.operand_programs.specs.Results.{IsGivable}
 use Rattle.micro_lower.specs.Plans.{steps_of}
 use Rattle.micro_lower.proofs.Ready.{effect}
@@ -39,7 +39,7 @@ use Rattle.micro_ops.proofs.Sizes.{low_below}
 use Rattle.micro_lower.specs.Rows.{ones, move_zero_extended_plan, clear_plan, move_complemented_plan, move_negated_plan, move_address_plan}
 use Rattle.micro_lower.proofs.Given.{value_coded, value_end, value_ends, coded_end_of, gives_as, result_ready}
 use Rattle.micro_lower.proofs.Overflow.{IsNarrow, some}
-use Rattle.micro_lower.proofs.Planned.{only_write, address_and_write}
+use Rattle.micro_lower.proofs.Planned.{only_write, address_and_place}
 use Rattle.micro_lower.proofs.Tabled.{is_narrower}
 
 -- ---- the rows
@@ -47,11 +47,11 @@ pub move_all : (size : Size) (instr : Instr) → IsGivable (operand instr 1) siz
 unfolding body give sources_of value_from
 move_all size instr givable state pages thread temps values ok same left =
     let plan = move_plan size instr in
-    let v = temps 0 % limit_of size in
-    let after = effect plan.before (found_at state instr.after) temps in
-    read_and_write values temps (BodyDoes (operations.Move size) instr plan state pages thread temps) size (operand instr 0) 0 1 size (operand instr 1) left (λ location fits at.
-    gives_as (Result size) Kept state pages thread instr.after ok size (operand instr 1) (steps_of plan.slots instr) same location (value_coded state size v) after [] refl
-    at givable refl (low_below size _) refl (result_ready size state v after (low_below size _) (sym (mod-eq_of_lt fits)) refl) Next tt instr.after refl
+    let v = temps 2 % limit_of size in
+    read_and_place values temps (BodyDoes (operations.Move size) instr plan state pages thread temps) size (operand instr 0) 2 1 size (operand instr 1) left (λ location fits at.
+    let is : temps 2 ≡ v = sym (mod-eq_of_lt fits) in
+    gives_as (Result size) Kept state pages thread instr.after ok size (operand instr 1) (steps_of plan.slots instr) same location (value_coded state size v) temps [] refl
+    at givable is (low_below size _) refl (result_ready size state v temps (low_below size _) is) Next tt instr.after refl
     (value_end pages size v instr.after) (value_ends pages state size v instr.after))
 
 -- the value is smaller than half of the size's range
@@ -90,12 +90,12 @@ pub move_zero_extended_all : (from to : Width) (instr : Instr) → is_narrower f
 unfolding body move_zero_extended sources_of value_from
 move_zero_extended_all from to instr narrow givable state pages thread temps values ok same left =
     let plan = move_zero_extended_plan from to instr in
-    let v = temps 0 % limit_of (size_of from) in
-    let after = effect plan.before (found_at state instr.after) temps in
+    let v = temps 2 % limit_of (size_of from) in
     let fits = still_fits from to narrow v (low_below (size_of from) _) in
-    read_and_write values temps (BodyDoes (operations.MoveZeroExtended from to) instr plan state pages thread temps) (size_of from) (operand instr 0) 0 1 (size_of to) (operand instr 1) left (λ location was at.
-    gives_as (Result (size_of to)) Kept state pages thread instr.after ok (size_of to) (operand instr 1) (steps_of plan.slots instr) same location (value_coded state (size_of to) v) after [] refl
-    at givable refl fits refl (result_ready (size_of to) state v after fits (sym (mod-eq_of_lt was)) refl) Next tt instr.after refl
+    read_and_place values temps (BodyDoes (operations.MoveZeroExtended from to) instr plan state pages thread temps) (size_of from) (operand instr 0) 2 1 (size_of to) (operand instr 1) left (λ location was at.
+    let is : temps 2 ≡ v = sym (mod-eq_of_lt was) in
+    gives_as (Result (size_of to)) Kept state pages thread instr.after ok (size_of to) (operand instr 1) (steps_of plan.slots instr) same location (value_coded state (size_of to) v) temps [] refl
+    at givable is fits refl (result_ready (size_of to) state v temps fits is) Next tt instr.after refl
     (zero_extended_end pages v instr.after) (zero_extended_ends pages state (size_of to) v instr.after (zero_extended from to narrow v (low_below (size_of from) _))))
 
 pub clear_all : (size : Size) (instr : Instr) → IsGivable (operand instr 0) size → AllDo (operations.Clear size) instr (clear_plan size instr)
@@ -105,7 +105,7 @@ clear_all size instr givable state pages thread temps values ok same left =
     let after = effect plan.before (found_at state instr.after) temps in
     only_write values temps (BodyDoes (operations.Clear size) instr plan state pages thread temps) size (operand instr 0) left (λ location at.
     gives_as (Result size) Kept state pages thread instr.after ok size (operand instr 0) (steps_of plan.slots instr) same location (value_coded state size 0) after plan.behind refl
-    at givable refl (some size) refl (result_ready size state 0 (effect plan.behind (found_at state instr.after) after) (some size) refl refl) Next tt instr.after refl
+    at givable refl (some size) refl (result_ready size state 0 after (some size) refl) Next tt instr.after refl
     (value_end pages size 0 instr.after) (value_ends pages state size 0 instr.after))
 
 complemented : (size : Size) (x : ℕ) → x < limit_of size → (ones size % limit_of size + (limit_of size - x)) % limit_of size ≡ limit_of size - 1 - x
@@ -129,7 +129,7 @@ move_complemented_all width instr givable state pages thread temps values ok sam
     let fits : v < limit_of size = complement_fits size x in
     read_and_write values temps (BodyDoes (operations.MoveComplemented width) instr plan state pages thread temps) size (operand instr 0) 0 1 size (operand instr 1) left (λ location was at.
     gives_as (Result size) Kept state pages thread instr.after ok size (operand instr 1) (steps_of plan.slots instr) same location (value_coded state size v) after plan.behind refl
-    at givable made fits refl (result_ready size state v (effect plan.behind (found_at state instr.after) after) fits (ap (λ n. n % limit_of size) made ∙ mod-eq_of_lt fits) made) Next tt instr.after refl
+    at givable made fits refl (result_ready size state v after fits made) Next tt instr.after refl
     (value_end pages size v instr.after) (value_ends pages state size v instr.after))
 
 negated : (size : Size) (x : ℕ) → IsNarrow size → x < limit_of size → (0 % limit_of size + (limit_of size - x)) % limit_of size ≡ (0 + limit_of size - (x + 0)) % limit_of size
@@ -161,9 +161,9 @@ pub move_address_all : (size : Size) (instr : Instr) → IsGivable (operand inst
 unfolding body give sources_of value_from
 move_address_all size instr givable state pages thread temps values ok same left =
     let plan = move_address_plan size instr in
-    let v = temps 0 % 2 ^ 32 in
-    let after = effect plan.before (found_at state instr.after) temps in
-    address_and_write values temps (BodyDoes (operations.MoveAddress size) instr plan state pages thread temps) size (operand instr 0) 0 1 Long (operand instr 1) left (λ location fits at.
-    gives_as (Result Long) Kept state pages thread instr.after ok Long (operand instr 1) (steps_of plan.slots instr) same location (value_coded state Long v) after [] refl
-    at givable refl (low_below Long _) refl (result_ready Long state v after (low_below Long _) (sym (mod-eq_of_lt fits)) refl) Next tt instr.after refl
+    let v = temps 2 % 2 ^ 32 in
+    address_and_place values temps (BodyDoes (operations.MoveAddress size) instr plan state pages thread temps) size (operand instr 0) 2 1 Long (operand instr 1) left (λ location fits at.
+    let is : temps 2 ≡ v = sym (mod-eq_of_lt fits) in
+    gives_as (Result Long) Kept state pages thread instr.after ok Long (operand instr 1) (steps_of plan.slots instr) same location (value_coded state Long v) temps [] refl
+    at givable is (low_below Long _) refl (result_ready Long state v temps (low_below Long _) is) Next tt instr.after refl
     (value_end pages Long v instr.after) (value_ends pages state Long v instr.after))

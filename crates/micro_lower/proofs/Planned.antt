@@ -111,6 +111,12 @@ module _ (values : List Evaluated) (temps : Temps) (P : List Evaluated → Type 
       after_write size a 2 3 [] values temps P left (λ others left' location at.
       after_all others temps (λ others. P (place location ∷ others)) left' (goes location at))
 
+  pub only_place : (size : Size) (a : Operand) → AreLeft (specifier Write size a 0 3 ∷ []) values temps
+      → ((location : Location) → IsAt a location (temps 3) → P (place location ∷ [])) → P values
+  only_place size a left goes =
+      after_write size a 0 3 [] values temps P left (λ others left' location at.
+      after_all others temps (λ others. P (place location ∷ others)) left' (goes location at))
+
   pub only_read : (size : Size) (a : Operand) (to from : ℕ) → AreLeft (specifier Read size a to from ∷ []) values temps
       → (IsOfSize size (temps to) → P (value (temps to) ∷ [])) → P values
   only_read size a to from left goes =
@@ -139,11 +145,16 @@ module _ (values : List Evaluated) (temps : Temps) (P : List Evaluated → Type 
   read_and_write left goes =
       after_read size a to from (specifier Write size' b 2 3 ∷ []) values temps P left (λ others left' fits. only_write others temps P' size' b left' (λ location at. goes location fits at))
 
-  pub address_and_write : AreLeft (specifier Address size a to from ∷ specifier Write size' b 2 3 ∷ []) values temps
+  pub read_and_place : AreLeft (specifier Read size a to from ∷ specifier Write size' b 0 3 ∷ []) values temps
+      → ((location : Location) → IsOfSize size (temps to) → IsAt b location (temps 3) → P (value (temps to) ∷ place location ∷ [])) → P values
+  read_and_place left goes =
+      after_read size a to from (specifier Write size' b 0 3 ∷ []) values temps P left (λ others left' fits. only_place others temps P' size' b left' (λ location at. goes location fits at))
+
+  pub address_and_place : AreLeft (specifier Address size a to from ∷ specifier Write size' b 0 3 ∷ []) values temps
       → ((location : Location) → temps to < 2 ^ 32 → IsAt b location (temps 3) → P (address (temps to) ∷ place location ∷ [])) → P values
-  address_and_write left goes =
-      after_address size a to from (specifier Write size' b 2 3 ∷ []) values temps P left
-      (λ others left' fits. only_write others temps (λ others. P (address (temps to) ∷ others)) size' b left' (λ location at. goes location fits at))
+  address_and_place left goes =
+      after_address size a to from (specifier Write size' b 0 3 ∷ []) values temps P left
+      (λ others left' fits. only_place others temps (λ others. P (address (temps to) ∷ others)) size' b left' (λ location at. goes location fits at))
 
   pub read_and_modify : (to' : ℕ) → AreLeft (specifier Read size a to from ∷ specifier Modify size' b to' 3 ∷ []) values temps
       → ((location : Location) → IsOfSize size (temps to) → IsAt b location (temps 3) → IsOfSize size' (temps to') → P (value (temps to) ∷ both location (temps to') ∷ [])) → P values

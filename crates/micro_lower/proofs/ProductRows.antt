@@ -156,9 +156,8 @@ module _ (instr : Instr) where
         let coded : Coded = coded_value 8 v false false in
         let made : after 2 ≡ v = sum_made (first % 2 ^ 32) (second % 2 ^ 32) (temps 1 % 2 ^ 32) (temps 0) zero (low_below Long (temps 1)) in
         let below : v < 2 ^ 64 = product_below (first % 2 ^ 32) (second % 2 ^ 32) (temps 1 % 2 ^ 32) in
-        let moved : after 2 % 2 ^ 64 ≡ v = ap (λ n. n % 2 ^ 64) made ∙ mod-eq_of_lt below in
         gives_as (Result Quad) Zero state pages thread instr.after ok Quad (operand instr 3) steps_all same location coded after plan.behind refl
-        at givable made below refl (((rw moved below, rw moved refl, rw moved refl), made ∙ sym moved, refl), refl) Next tt instr.after refl
+        at givable made below refl (((rw made below, rw made refl, rw made refl), refl), refl) Next tt instr.after refl
         (test_end pages Quad v instr.after) (λ s e. plain_end pages coded.n coded.z false instr.after s)
 
   pub product_does : operation_at instr.opcode ≡ Some operations.ExtendedMultiply → AreOperandsOf all_of (evaluated_row operations.ExtendedMultiply) instr → ArePlaced factors_of → ArePlaced others_of

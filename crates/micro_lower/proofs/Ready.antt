@@ -37,7 +37,7 @@ HasSign size value coded = (value < limit_of size) × (coded.n ≡ nat_le (limit
 
 -- V is 0
 abbrev pub IsResult : Size → Temps → Coded → Type 0
-IsResult size temps coded = HasSign size (temps 0) coded × (temps 2 ≡ temps 0) × (coded.v ≡ false)
+IsResult size temps coded = HasSign size (temps 2) coded × (coded.v ≡ false)
 
 abbrev pub IsSum : Size → Temps → Coded → Type 0
 IsSum size temps coded = IsNarrow size × HoldsBoth size temps × (temps 2 ≡ coded.value) × (sum size temps ≡ coded)
@@ -123,22 +123,22 @@ module _ (start : VaxState) (pages : Pages) (thread : ℕ) (found : Found) (stan
   pub result_kept : (size : Size) → IsResult size standing.temps coded → standing.state.psw % 2 ≡ bit coded.c → EndsCoded (Result size) Kept
   unfolding value_from
   result_kept size ready c low goes same =
-      let made = signs_by 0 size ++ none_into 8 in
+      let made = signs_by 2 size ++ none_into 8 in
       codes_leave (from (Result size) Kept) start pages thread coded.n coded.z coded.v coded.c 6 7 8 None found (with_temps (effect made found standing.temps) standing) exit pc
-      (negative size _ ready.0) (nothing size _ ready.0) (rw ready.2 refl) c (goes_behind made refl low goes)
+      (negative size _ ready.0) (nothing size _ ready.0) (rw ready.1 refl) c (goes_behind made refl low goes)
       (λ psw flags. record {
-        signs = (ready.0.0, ready.1, (flags.negative ∙ ap bit ready.0.1, flags.zero ∙ ap bit ready.0.2, flags.overflow ∙ ap bit ready.2));
+        signs = (ready.0.0, (flags.negative ∙ ap bit ready.0.1, flags.zero ∙ ap bit ready.0.2, flags.overflow ∙ ap bit ready.1));
         carry = flags.carry ∙ sym c ∙ was_carry same;
       })
 
   pub result_zero : (size : Size) → IsResult size standing.temps coded → coded.c ≡ false → EndsCoded (Result size) Zero
   unfolding value_from
   result_zero size ready c low goes same =
-      let made = signs_by 0 size ++ none_into 8 ++ none_into 9 in
+      let made = signs_by 2 size ++ none_into 8 ++ none_into 9 in
       codes_leave (from (Result size) Zero) start pages thread coded.n coded.z coded.v coded.c 6 7 8 (Some 9) found (with_temps (effect made found standing.temps) standing) exit pc
-      (negative size _ ready.0) (nothing size _ ready.0) (rw ready.2 refl) (rw c refl) (goes_behind made refl low goes)
+      (negative size _ ready.0) (nothing size _ ready.0) (rw ready.1 refl) (rw c refl) (goes_behind made refl low goes)
       (λ psw flags. record {
-        signs = (ready.0.0, ready.1, (flags.negative ∙ ap bit ready.0.1, flags.zero ∙ ap bit ready.0.2, flags.overflow ∙ ap bit ready.2));
+        signs = (ready.0.0, (flags.negative ∙ ap bit ready.0.1, flags.zero ∙ ap bit ready.0.2, flags.overflow ∙ ap bit ready.1));
         carry = flags.carry ∙ ap bit c;
       })
 

@@ -74,14 +74,14 @@ unfolding body test_value sources_of value_from
 test_all width instr state pages thread temps values ok same left =
     let size = size_of width in
     let plan = test_plan width in
-    let v = temps 0 % limit_of size in
+    let v = temps 2 % limit_of size in
     let coded = coded_value (bytes_of size) v false false in
-    only_read values temps (BodyDoes (operations.Test width) instr plan state pages thread temps) size (operand instr 0) 0 1 left (λ fits.
-    let is : temps 0 ≡ v = sym (mod-eq_of_lt fits) in
+    only_read values temps (BodyDoes (operations.Test width) instr plan state pages thread temps) size (operand instr 0) 2 1 left (λ fits.
+    let is : temps 2 ≡ v = sym (mod-eq_of_lt fits) in
     nowhere (from (Result size) Zero) state pages thread instr.after ok _ (test_end pages size v instr.after) _
     (closes_coded (Result size) Zero state pages thread instr.after coded Next instr.after (test_end pages size v instr.after) (λ s e. plain_end pages coded.n coded.z false instr.after s))
     plan.behind refl (steps_of plan.slots instr) temps same
-    (record { low = tt; goes = refl; ready = (((fits, ap (λ n. nat_le (limit_of size / 2) n) (sym is), ap (λ n. n == 0) (sym is)), sym is, refl), refl) }))
+    (record { low = tt; goes = refl; ready = (((fits, ap (λ n. nat_le (limit_of size / 2) n) (sym is), ap (λ n. n == 0) (sym is)), refl), refl) }))
 
 pub bit_test_all : (width : Width) (instr : Instr) → AllDo (operations.BitTest width) instr (bit_test_plan width)
 unfolding body bit_test sources_of value_from
@@ -98,14 +98,14 @@ bit_test_all width instr state pages thread temps values ok same left =
     nowhere (from (Result size) Kept) state pages thread instr.after ok _ (value_end pages size v instr.after) _
     (closes_coded (Result size) Kept state pages thread instr.after (value_coded state size v) Next instr.after (value_end pages size v instr.after) (value_ends pages state size v instr.after))
     plan.behind refl (steps_of plan.slots instr) temps same
-    (record { low = tt; goes = refl; ready = result_ready size state v (effect plan.behind found temps) fits (ap (λ n. n % limit_of size) made ∙ mod-eq_of_lt fits) made }))
+    (record { low = tt; goes = refl; ready = result_ready size state v (effect plan.behind found temps) fits made }))
 
 -- ---- pushes
 pub room : (state : VaxState) (steps : List ℕ) → IsState state → length steps ≡ length state.r → 14 < length steps
 room state steps ok same = let r = ok.registers in omega (arith, same, r)
 
 module _ (instr : Instr) (plan : Plan) (state : VaxState) (pages : Pages) (thread : ℕ) (ok : IsState state) (steps : List ℕ) (same : length steps ≡ length state.r)
-    (value : ℕ) (temps : Temps) (fits : value < 2 ^ 32) (zero : temps 0 ≡ value) (two : temps 2 ≡ value) where
+    (value : ℕ) (temps : Temps) (fits : value < 2 ^ 32) (two : temps 2 ≡ value) where
   pushes_value : DoesSo (from (Result Long) Kept) state pages thread instr.after
       (push_program steps 3 2 ++ ([] ++ (commit_program 0 (steps_behind_push steps) ++ (codes_program (from (Result Long) Kept) ++ Leave Next ∷ [])))) (with state temps)
       (tree_of pages (push value) (stepped steps state) (λ done s. value_end pages Long value instr.after s))
@@ -113,19 +113,19 @@ module _ (instr : Instr) (plan : Plan) (state : VaxState) (pages : Pages) (threa
       pushed (from (Result Long) Kept) state pages thread instr.after ok _ (value_end pages Long value instr.after) _
       (closes_coded (Result Long) Kept state pages thread instr.after (value_coded state Long value) Next instr.after (value_end pages Long value instr.after) (value_ends pages state Long value instr.after))
       [] refl steps value temps same (room state steps ok same) two
-      (λ temps' kept. record { low = tt; goes = refl; ready = result_ready Long state value temps' fits (kept 0 refl refl refl ∙ zero) (kept 2 refl refl refl ∙ two) })
+      (λ temps' kept. record { low = tt; goes = refl; ready = result_ready Long state value temps' fits (kept 2 refl refl refl ∙ two) })
 
 pub push_long_all : (instr : Instr) → AllDo operations.PushLong instr push_long_plan
 unfolding body push_value sources_of value_from
 push_long_all instr state pages thread temps values ok same left =
-    let v = temps 0 % 2 ^ 32 in
-    only_read values temps (BodyDoes operations.PushLong instr push_long_plan state pages thread temps) Long (operand instr 0) 0 1 left (λ fits.
-    pushes_value instr push_long_plan state pages thread ok (steps_of push_long_plan.slots instr) same v (effect push_long_plan.before (found_at state instr.after) temps) (low_below Long _) (sym (mod-eq_of_lt fits)) refl)
+    let v = temps 2 % 2 ^ 32 in
+    only_read values temps (BodyDoes operations.PushLong instr push_long_plan state pages thread temps) Long (operand instr 0) 2 1 left (λ fits.
+    pushes_value instr push_long_plan state pages thread ok (steps_of push_long_plan.slots instr) same v temps (low_below Long _) (sym (mod-eq_of_lt fits)))
 
 pub push_address_all : (size : Size) (instr : Instr) → AllDo (operations.PushAddress size) instr (push_address_plan size)
 unfolding body push_value sources_of value_from
 push_address_all size instr state pages thread temps values ok same left =
-    let v = temps 0 % 2 ^ 32 in
+    let v = temps 2 % 2 ^ 32 in
     let plan = push_address_plan size in
-    only_address values temps (BodyDoes (operations.PushAddress size) instr plan state pages thread temps) size (operand instr 0) 0 1 left (λ fits.
-    pushes_value instr plan state pages thread ok (steps_of plan.slots instr) same v (effect plan.before (found_at state instr.after) temps) (low_below Long _) (sym (mod-eq_of_lt fits)) refl)
+    only_address values temps (BodyDoes (operations.PushAddress size) instr plan state pages thread temps) size (operand instr 0) 2 1 left (λ fits.
+    pushes_value instr plan state pages thread ok (steps_of plan.slots instr) same v temps (low_below Long _) (sym (mod-eq_of_lt fits)))

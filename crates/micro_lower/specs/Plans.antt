@@ -98,7 +98,7 @@ abbrev pub signs_of_two : Size → List Micro
 signs_of_two size = Compute 6 ops.Less size (Temp 0) (Temp 1) ∷ Compute 7 ops.Equal size (Temp 0) (Temp 1) ∷ none_into 8
 
 abbrev pub signs_program : CodeSource → List Micro
-signs_program (sources.Result size) = signs_by 0 size ++ none_into 8
+signs_program (sources.Result size) = signs_by 2 size ++ none_into 8
 signs_program (sources.Add size) = signs_by 2 size ++ overflow_of ops.Add size
 signs_program (sources.Sub size) = signs_by 2 size ++ overflow_of ops.Sub size
 signs_program (sources.Compare size) = signs_of_two size

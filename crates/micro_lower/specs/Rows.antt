@@ -53,13 +53,17 @@ read size to place = slot accesses.Read size to place
 abbrev pub written : Size → Slot
 written size = slot accesses.Write size 2 3
 
+-- the same through 0, where 2 has the value that is written
+abbrev pub placed : Size → Slot
+placed size = slot accesses.Write size 0 3
+
 -- the value goes into that temporary, the address into 3
 abbrev pub modified : Size → (to : ℕ) → Slot
 modified size to = slot accesses.Modify size to 3
 
--- the address goes into 0
-abbrev pub addressed : Size → Slot
-addressed size = slot accesses.Address size 0 1
+-- the address goes into that temporary
+abbrev pub addressed : Size → (to : ℕ) → Slot
+addressed size to = slot accesses.Address size to 1
 
 -- a displacement is in the instruction, and takes no temporary
 abbrev pub displaced : Size → Slot
@@ -84,8 +88,8 @@ register_target base size = targets.Nowhere
 -- MOV
 abbrev pub move_plan : Size → Instr → Plan
 move_plan size instr = record {
-  slots = read size 0 1 ∷ written size ∷ [];
-  before = unary 2 ops.Move size (Temp 0) ∷ [];
+  slots = read size 2 1 ∷ placed size ∷ [];
+  before = [];
   target = targets.Result (operand instr 1) size;
   behind = [];
   exit = Next;
@@ -94,8 +98,8 @@ move_plan size instr = record {
 -- MOVZ
 abbrev pub move_zero_extended_plan : (from to : Width) → Instr → Plan
 move_zero_extended_plan from to instr = record {
-  slots = read (size_of from) 0 1 ∷ written (size_of to) ∷ [];
-  before = unary 2 ops.Move (size_of from) (Temp 0) ∷ [];
+  slots = read (size_of from) 2 1 ∷ placed (size_of to) ∷ [];
+  before = [];
   target = targets.Result (operand instr 1) (size_of to);
   behind = [];
   exit = Next;
@@ -107,7 +111,7 @@ clear_plan size instr = record {
   slots = written size ∷ [];
   before = unary 2 ops.Move Byte (Const 0) ∷ [];
   target = targets.Result (operand instr 0) size;
-  behind = unary 0 ops.Move Byte (Const 0) ∷ [];
+  behind = [];
   exit = Next;
 }
 
@@ -124,7 +128,7 @@ move_complemented_plan width instr = record {
   slots = read (size_of width) 0 1 ∷ written (size_of width) ∷ [];
   before = Compute 2 ops.Sub (size_of width) (Const (ones (size_of width))) (Temp 0) ∷ [];
   target = targets.Result (operand instr 1) (size_of width);
-  behind = unary 0 ops.Move (size_of width) (Temp 2) ∷ [];
+  behind = [];
   exit = Next;
 }
 
@@ -151,8 +155,8 @@ convert_plan from to instr = record {
 -- MOVA
 abbrev pub move_address_plan : Size → Instr → Plan
 move_address_plan size instr = record {
-  slots = addressed size ∷ written Long ∷ [];
-  before = unary 2 ops.Move Long (Temp 0) ∷ [];
+  slots = addressed size 2 ∷ placed Long ∷ [];
+  before = [];
   target = targets.Result (operand instr 1) Long;
   behind = [];
   exit = Next;
@@ -161,8 +165,8 @@ move_address_plan size instr = record {
 -- PUSHA
 abbrev pub push_address_plan : Size → Plan
 push_address_plan size = record {
-  slots = addressed size ∷ [];
-  before = unary 2 ops.Move Long (Temp 0) ∷ [];
+  slots = addressed size 2 ∷ [];
+  before = [];
   target = targets.Stack;
   behind = [];
   exit = Next;
@@ -171,8 +175,8 @@ push_address_plan size = record {
 -- PUSHL
 abbrev pub push_long_plan : Plan
 push_long_plan = record {
-  slots = read Long 0 1 ∷ [];
-  before = unary 2 ops.Move Long (Temp 0) ∷ [];
+  slots = read Long 2 1 ∷ [];
+  before = [];
   target = targets.Stack;
   behind = [];
   exit = Next;
@@ -192,10 +196,10 @@ compare_plan width = record {
 -- TST
 abbrev pub test_plan : Width → Plan
 test_plan width = record {
-  slots = read (size_of width) 0 1 ∷ [];
+  slots = read (size_of width) 2 1 ∷ [];
   before = [];
   target = targets.Nowhere;
-  behind = unary 2 ops.Move (size_of width) (Temp 0) ∷ [];
+  behind = [];
   exit = Next;
 }
 
@@ -205,7 +209,7 @@ bit_test_plan width = record {
   slots = read (size_of width) 0 1 ∷ read (size_of width) 1 2 ∷ [];
   before = [];
   target = targets.Nowhere;
-  behind = Compute 2 ops.And Quad (Temp 0) (Temp 1) ∷ unary 0 ops.Move (size_of width) (Temp 2) ∷ [];
+  behind = Compute 2 ops.And Quad (Temp 0) (Temp 1) ∷ [];
   exit = Next;
 }
 
@@ -226,13 +230,11 @@ made_size binary.BitClear size = Quad
 made_size binary.ExclusiveOr size = Quad
 made_size operation size = size
 
--- V of a product is computed, and a logical result is also in 0
+-- V of a product is computed
 abbrev pub behind_binary : BinaryOperation → Size → List Micro
-behind_binary binary.Add size = []
-behind_binary binary.Subtract size = []
 behind_binary binary.Multiply size =
     unary 4 ops.SignExtend size (Temp 0) ∷ unary 5 ops.SignExtend size (Temp 1) ∷ Compute 4 ops.Mul Quad (Temp 4) (Temp 5) ∷ overflow_by size
-behind_binary _ size = unary 0 ops.Move size (Temp 2) ∷ []
+behind_binary operation size = []
 
 -- ADD2, SUB2, MUL2, BIS2, BIC2, XOR2
 abbrev pub two_operands_plan : BinaryOperation → Width → Instr → Plan
@@ -494,7 +496,7 @@ jump_exit _ = Computed 0
 -- JMP
 abbrev pub jump_plan : Instr → Plan
 jump_plan instr = record {
-  slots = addressed Byte ∷ [];
+  slots = addressed Byte 0 ∷ [];
   before = [];
   target = targets.Nowhere;
   behind = [];
@@ -504,7 +506,7 @@ jump_plan instr = record {
 -- JSB
 abbrev pub jump_to_subroutine_plan : Instr → Plan
 jump_to_subroutine_plan instr = record {
-  slots = addressed Byte ∷ [];
+  slots = addressed Byte 0 ∷ [];
   before = unary 2 ops.Move Long (Const instr.after) ∷ [];
   target = targets.Stack;
   behind = [];
@@ -642,7 +644,7 @@ before_rotation count = rotated
 
 -- ROTL
 abbrev pub rotate_plan : Instr → Plan
-rotate_plan instr = shift_plan_with (before_rotation (operand instr 0)) (unary 0 ops.Move Long (Temp 2) ∷ []) instr
+rotate_plan instr = shift_plan_with (before_rotation (operand instr 0)) [] instr
 
 -- ---- EMUL: four operands are too many for the temporaries, so the factors are multiplied before the others are evaluated
 abbrev pub factors : List Slot
@@ -661,7 +663,7 @@ extended_multiply_plan instr = record {
   slots = others;
   before = unary 4 ops.SignExtend Long (Temp 1) ∷ Compute 2 ops.Add Quad (Temp 0) (Temp 4) ∷ [];
   target = targets.Result (operand instr 3) Quad;
-  behind = unary 0 ops.Move Quad (Temp 2) ∷ [];
+  behind = [];
   exit = Next;
 }
 

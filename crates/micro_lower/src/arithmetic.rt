@@ -41,10 +41,10 @@ pub(crate) fn test_value(
     ensures { IfOk result (λ p. p.items ≡ program_of codes (test_plan width) instr.now) }
 {
     let plan = Plan {
-        slots: &[read(width.size(), 0, 1)],
+        slots: &[read(width.size(), 2, 1)],
         before: &[],
         target: Target::Nowhere,
-        behind: &[unary!(2, MicroOp::Move, width.size(), Arg::Temp(0))],
+        behind: &[],
         exit: Exit::Next,
     };
     assemble(alloc, codes, plan, instr)
@@ -64,10 +64,7 @@ pub(crate) fn bit_test(
         slots: &[read(size, 0, 1), read(size, 1, 2)],
         before: &[],
         target: Target::Nowhere,
-        behind: &[
-            binary!(2, MicroOp::And, Size::Quad, Arg::Temp(0), Arg::Temp(1)),
-            unary!(0, MicroOp::Move, size, Arg::Temp(2)),
-        ],
+        behind: &[binary!(2, MicroOp::And, Size::Quad, Arg::Temp(0), Arg::Temp(1))],
         exit: Exit::Next,
     };
     assemble(alloc, codes, plan, instr)
@@ -130,7 +127,7 @@ fn product_overflow(size: Size) -> [Micro; 6]
     ]
 }
 
-/// A row with two operands in 0 and 1: V of a product is computed, and a logical result is also in 0.
+/// A row with two operands in 0 and 1: V of a product is computed.
 fn assemble_binary(
     alloc: Global,
     operation: BinaryOperation,
@@ -143,11 +140,9 @@ fn assemble_binary(
     ensures { IfOk result (λ p. p.items ≡ program_of codes (record (plan_of plan.entry) { behind = behind_binary operation size }) instr.now) }
 {
     let overflow = product_overflow(size);
-    let moved = [unary!(0, MicroOp::Move, size, Arg::Temp(2))];
     let behind: &[Micro] = match operation {
-        BinaryOperation::Add | BinaryOperation::Subtract => &[],
         BinaryOperation::Multiply => &overflow,
-        _ => &moved,
+        _ => &[],
     };
     assemble(alloc, codes, Plan { behind, ..plan }, instr)
 }

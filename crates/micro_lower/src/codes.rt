@@ -64,7 +64,7 @@ fn put_signs(program: &mut Vec<Micro>, nzv: CodeSource) -> Result<(), WantOfMemo
 {
     match nzv {
         CodeSource::Result(size) => {
-            let [negative, zero] = signs_by(0, size);
+            let [negative, zero] = signs_by(2, size);
             add(program, &[negative, zero, NO_OVERFLOW])
         }
         CodeSource::Add(size) => put_overflow(program, MicroOp::Add, size),

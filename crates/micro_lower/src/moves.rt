@@ -2,30 +2,30 @@
 // VAX Architecture Reference Manual, "Integer Arithmetic and Logical Instructions" and "Address Instructions".
 ghost use Rattle.std.specs.Prelude.{◌≡◌, ◌∷◌, [], IfOk};
 ghost use Rattle.vax_meaning.specs.Evaluation.{operand};
-ghost use Rattle.micro_lower.specs.Plans.{unary, program_of};
-ghost use Rattle.micro_lower.specs.Rows.{written, move_plan, move_zero_extended_plan, clear_plan, ones, move_complemented_plan, move_negated_plan, convert_plan, move_address_plan};
+ghost use Rattle.micro_lower.specs.Plans.{program_of};
+ghost use Rattle.micro_lower.specs.Rows.{move_plan, move_zero_extended_plan, clear_plan, ones, move_complemented_plan, move_negated_plan, convert_plan, move_address_plan};
 
 use crate::micros::{binary, unary};
 use crate::plans::{Plan, Slot, Target, assemble};
-use crate::rows::{addressed, operand, overflow_by, read, written};
+use crate::rows::{addressed, operand, overflow_by, placed, read, written};
 use micro_ops::{Arg, CodeSources, Exit, Micro, MicroOp};
 use std::alloc::Global;
 use vax_form::{Instr, Size, WantOfMemory, Width};
 
-/// A row whose first operand goes to the second, of that size.
+/// A row whose result goes to the second operand, of that size, in that slot.
 fn to_second(
     alloc: Global,
     codes: CodeSources,
     instr: &Instr,
-    first: Slot,
+    slots: [Slot; 2],
     size: Size,
     before: &[Micro],
     behind: &[Micro],
 ) -> Result<Vec<Micro>, WantOfMemory>
-    ensures { IfOk result (λ p. p.items ≡ program_of codes (record { slots = first ∷ written size ∷ []; before = before.now; target = Target.Result (operand instr.now 1) size; behind = behind.now; exit = Exit.Next }) instr.now) }
+    ensures { IfOk result (λ p. p.items ≡ program_of codes (record { slots = slots; before = before.now; target = Target.Result (operand instr.now 1) size; behind = behind.now; exit = Exit.Next }) instr.now) }
 {
     let plan = Plan {
-        slots: &[first, written(size)],
+        slots: &slots,
         before,
         target: Target::Result {
             operand: operand(instr, 1),
@@ -46,8 +46,8 @@ pub(crate) fn move_value(
 ) -> Result<Vec<Micro>, WantOfMemory>
     ensures { IfOk result (λ p. p.items ≡ program_of codes (move_plan size instr.now) instr.now) }
 {
-    let before = [unary!(2, MicroOp::Move, size, Arg::Temp(0))];
-    to_second(alloc, codes, instr, read(size, 0, 1), size, &before, &[])
+    let slots = [read(size, 2, 1), placed(size)];
+    to_second(alloc, codes, instr, slots, size, &[], &[])
 }
 
 /// MOVZ.
@@ -60,14 +60,15 @@ pub(crate) fn move_zero_extended(
 ) -> Result<Vec<Micro>, WantOfMemory>
     ensures { IfOk result (λ p. p.items ≡ program_of codes (move_zero_extended_plan from to instr.now) instr.now) }
 {
-    let (source, size) = (from.size(), to.size());
-    let before = [unary!(2, MicroOp::Move, source, Arg::Temp(0))];
-    to_second(alloc, codes, instr, read(source, 0, 1), size, &before, &[])
+    let size = to.size();
+    let slots = [read(from.size(), 2, 1), placed(size)];
+    to_second(alloc, codes, instr, slots, size, &[], &[])
 }
 
-/// 0 into 0, and into the result.
+/// 0 into 0.
 const NONE: Micro = unary!(0, MicroOp::Move, Size::Byte, Arg::Const(0));
 
+/// 0 into the result.
 const NO_RESULT: Micro = unary!(2, MicroOp::Move, Size::Byte, Arg::Const(0));
 
 /// CLR.
@@ -86,7 +87,7 @@ pub(crate) fn clear(
             operand: operand(instr, 0),
             size,
         },
-        behind: &[NONE],
+        behind: &[],
         exit: Exit::Next,
     };
     assemble(alloc, codes, plan, instr)
@@ -116,16 +117,8 @@ pub(crate) fn move_complemented(
     let size = width.size();
     let all = Arg::Const(ones(size));
     let before = [binary!(2, MicroOp::Sub, size, all, Arg::Temp(0))];
-    let behind = [unary!(0, MicroOp::Move, size, Arg::Temp(2))];
-    to_second(
-        alloc,
-        codes,
-        instr,
-        read(size, 0, 1),
-        size,
-        &before,
-        &behind,
-    )
+    let slots = [read(size, 0, 1), written(size)];
+    to_second(alloc, codes, instr, slots, size, &before, &[])
 }
 
 /// MNEG: 0 minus the operand.
@@ -140,15 +133,8 @@ pub(crate) fn move_negated(
     let (size, none) = (width.size(), Arg::Const(0));
     let before = [binary!(2, MicroOp::Sub, size, none, Arg::Temp(1))];
     let behind = [NONE];
-    to_second(
-        alloc,
-        codes,
-        instr,
-        read(size, 1, 0),
-        size,
-        &before,
-        &behind,
-    )
+    let slots = [read(size, 1, 0), written(size)];
+    to_second(alloc, codes, instr, slots, size, &before, &behind)
 }
 
 /// CVT.
@@ -173,19 +159,9 @@ pub(crate) fn convert(
         equal,
         overflows,
     ];
-    to_second(
-        alloc,
-        codes,
-        instr,
-        read(source, 0, 1),
-        size,
-        &before,
-        &behind,
-    )
+    let slots = [read(source, 0, 1), written(size)];
+    to_second(alloc, codes, instr, slots, size, &before, &behind)
 }
-
-/// A longword from 0.
-const MOVED: Micro = unary!(2, MicroOp::Move, Size::Long, Arg::Temp(0));
 
 /// MOVA.
 pub(crate) fn move_address(
@@ -196,29 +172,22 @@ pub(crate) fn move_address(
 ) -> Result<Vec<Micro>, WantOfMemory>
     ensures { IfOk result (λ p. p.items ≡ program_of codes (move_address_plan size instr.now) instr.now) }
 {
-    to_second(
-        alloc,
-        codes,
-        instr,
-        addressed(size),
-        Size::Long,
-        &[MOVED],
-        &[],
-    )
+    let slots = [addressed(size, 2), placed(Size::Long)];
+    to_second(alloc, codes, instr, slots, Size::Long, &[], &[])
 }
 
-/// PUSHA, PUSHL: what is in 0 is pushed.
+/// PUSHA, PUSHL: what is in 2 is pushed.
 pub(crate) fn push(
     alloc: Global,
     codes: CodeSources,
     instr: &Instr,
     slot: Slot,
 ) -> Result<Vec<Micro>, WantOfMemory>
-    ensures { IfOk result (λ p. p.items ≡ program_of codes (record { slots = slot ∷ []; before = unary 2 MicroOp.Move Size.Long (Arg.Temp 0) ∷ []; target = Target.Stack; behind = []; exit = Exit.Next }) instr.now) }
+    ensures { IfOk result (λ p. p.items ≡ program_of codes (record { slots = slot ∷ []; before = []; target = Target.Stack; behind = []; exit = Exit.Next }) instr.now) }
 {
     let plan = Plan {
         slots: &[slot],
-        before: &[MOVED],
+        before: &[],
         target: Target::Stack,
         behind: &[],
         exit: Exit::Next,

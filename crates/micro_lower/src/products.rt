@@ -63,9 +63,6 @@ const SUM: [Micro; 2] = [
     binary!(2, MicroOp::Add, Size::Quad, Arg::Temp(0), Arg::Temp(4)),
 ];
 
-/// The result is also in 0.
-const COPY: Micro = unary!(0, MicroOp::Move, Size::Quad, Arg::Temp(2));
-
 /// The addend is added, and the sum given to the last operand.
 fn put_sum(program: &mut Vec<Micro>, instr: &Instr, steps: &mut Steps) -> Result<(), WantOfMemory>
     ensures { OnOk result (program.new.items ≡ program.old.items ++ rest_program (sources_of Operation.ExtendedMultiply) (extended_multiply_plan instr.now) steps.old) }
@@ -78,7 +75,7 @@ fn put_sum(program: &mut Vec<Micro>, instr: &Instr, steps: &mut Steps) -> Result
             operand: operand(instr, 3),
             size: quad,
         },
-        behind: &[COPY],
+        behind: &[],
         exit: Exit::Next,
     };
     let codes = sources_of(Operation::ExtendedMultiply);

@@ -1,7 +1,7 @@
 // What rows of the table are made of: slots of operands, and computations.
 ghost use Rattle.std.specs.Prelude.{◌≡◌, ◌<◌};
 ghost use Rattle.vax_meaning.specs.Evaluation.{operand};
-ghost use Rattle.micro_lower.specs.Rows.{read, written, modified, addressed, displaced, inverted, overflow_by, register_target, branch_exit, test_exit};
+ghost use Rattle.micro_lower.specs.Rows.{read, written, placed, modified, addressed, displaced, inverted, overflow_by, register_target, branch_exit, test_exit};
 
 use crate::micros::{binary, unary};
 use crate::plans::{Slot, Target};
@@ -35,6 +35,13 @@ pub(crate) fn written(size: Size) -> Slot
     slot!(Access::Write, size, 2, 3)
 }
 
+/// The same through 0, where 2 has the value that is written.
+pub(crate) fn placed(size: Size) -> Slot
+    ensures { result ≡ placed size }
+{
+    slot!(Access::Write, size, 0, 3)
+}
+
 /// The value goes into that temporary, the address into 3.
 pub(crate) fn modified(size: Size, to: u8) -> Slot
     ensures { result ≡ modified size to }
@@ -42,11 +49,11 @@ pub(crate) fn modified(size: Size, to: u8) -> Slot
     slot!(Access::Modify, size, to, 3)
 }
 
-/// The address goes into 0.
-pub(crate) fn addressed(size: Size) -> Slot
-    ensures { result ≡ addressed size }
+/// The address goes into that temporary.
+pub(crate) fn addressed(size: Size, to: u8) -> Slot
+    ensures { result ≡ addressed size to }
 {
-    slot!(Access::Address, size, 0, 1)
+    slot!(Access::Address, size, to, 1)
 }
 
 /// A displacement is in the instruction, and takes no temporary.

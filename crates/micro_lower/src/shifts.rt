@@ -242,9 +242,6 @@ fn put_before_rotation(program: &mut Vec<Micro>, count: Operand) -> Result<(), W
     }
 }
 
-/// The result is also in 0.
-const COPY: Micro = unary!(0, MicroOp::Move, Size::Long, Arg::Temp(2));
-
 /// ROTL.
 pub(crate) fn rotate(
     alloc: Global,
@@ -262,7 +259,7 @@ pub(crate) fn rotate(
             operand: operand(instr, 2),
             size: Size::Long,
         },
-        behind: &[COPY],
+        behind: &[],
         exit: Exit::Next,
     };
     assemble(alloc, codes, plan, instr)

@@ -110,7 +110,7 @@ is_from_psw source = false
 abbrev pub signs_are_held : Known → CodeSource → Bool
 signs_are_held known sources.Kept = true
 signs_are_held known sources.Zero = true
-signs_are_held known (sources.Result size) = holds known 0 && holds known 2
+signs_are_held known (sources.Result size) = holds known 2
 signs_are_held known (sources.Add size) = holds known 0 && holds known 1 && holds known 2
 signs_are_held known (sources.Sub size) = holds known 0 && holds known 1 && holds known 2
 signs_are_held known (sources.Compare size) = holds known 0 && holds known 1

@@ -43,7 +43,7 @@ HoldsBoth size temps = (temps 0 < limit_of size) × (temps 1 < limit_of size)
 abbrev pub SignsComeFrom : CodeSource → (found left : ℕ) → Temps → Type 0
 SignsComeFrom Kept found left temps = (flag_of 0 left ≡ flag_of 0 found) × (flag_of 1 left ≡ flag_of 1 found) × (flag_of 2 left ≡ flag_of 2 found)
 SignsComeFrom Zero found left temps = (flag_of 0 left ≡ 0) × (flag_of 1 left ≡ 0) × (flag_of 2 left ≡ 0)
-SignsComeFrom (Result size) found left temps = (temps 0 < limit_of size) × (temps 2 ≡ temps 0) × HasSigns (coded_value (bytes_of size) (temps 0) false false) left
+SignsComeFrom (Result size) found left temps = (temps 2 < limit_of size) × HasSigns (coded_value (bytes_of size) (temps 2) false false) left
 SignsComeFrom (Add size) found left temps = HoldsBoth size temps × (temps 2 ≡ (sum size temps).value) × HasSigns (sum size temps) left
 SignsComeFrom (Sub size) found left temps = HoldsBoth size temps × (temps 2 ≡ (difference size temps).value) × HasSigns (difference size temps) left
 SignsComeFrom (Compare size) found left temps = HoldsBoth size temps × HasSigns (comparison_of size (temps 0) (temps 1)) left

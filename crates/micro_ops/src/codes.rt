@@ -1,15 +1,15 @@
 // Where the condition codes of an instruction come from.
 use vax_form::Size;
 
-/// Where an instruction's codes come from when it leaves. The operands of a rule are in the temporaries 0 and 1, and a
-/// result is in 2.
+/// Where an instruction's codes come from when it leaves. The operands of a rule of two are in the temporaries 0 and
+/// 1, and a result is in 2.
 #[derive(Clone, Copy, Debug, PartialEq, Eq)]
 pub enum CodeSource {
     /// They stay as the instruction found them.
     Kept,
     /// 0.
     Zero,
-    /// N and Z by the value in temporary 0, which is also in 2; V is 0.
+    /// N and Z by the result in temporary 2, which is the operand of the rule; V is 0.
     Result(Size),
     /// Those of temporary 0 plus temporary 1.
     Add(Size),

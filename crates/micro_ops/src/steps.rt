@@ -167,7 +167,7 @@ fn signs_are_held(known: &Known, source: CodeSource) -> bool
 {
     match source {
         CodeSource::Kept | CodeSource::Zero => true,
-        CodeSource::Result(_) => known.holds(0) && known.holds(2),
+        CodeSource::Result(_) => known.holds(2),
         CodeSource::Add(_) | CodeSource::Sub(_) => {
             known.holds(0) && known.holds(1) && known.holds(2)
         }

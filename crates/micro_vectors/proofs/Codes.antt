@@ -21,227 +21,227 @@ Leaves codes left temps = SignsComeFrom codes.nzv 0xF left temps × CarryComesFr
 
 row1 : Leaves (sources_of (op.Move sizes.Byte)) 5 (temps 0 16045690984833335023 0 16045690984833335023 16045690984833335023)
 unfolding sources_of sum_of difference_of
-row1 = ((ltb-true 0 256 refl, refl, (refl, refl, refl)), refl)
+row1 = ((ltb-true 0 256 refl, (refl, refl, refl)), refl)
 
 row2 : Leaves (sources_of (op.Move sizes.Byte)) 1 (temps 1 16045690984833335023 1 16045690984833335023 16045690984833335023)
 unfolding sources_of sum_of difference_of
-row2 = ((ltb-true 1 256 refl, refl, (refl, refl, refl)), refl)
+row2 = ((ltb-true 1 256 refl, (refl, refl, refl)), refl)
 
 row3 : Leaves (sources_of (op.Move sizes.Byte)) 1 (temps 2 16045690984833335023 2 16045690984833335023 16045690984833335023)
 unfolding sources_of sum_of difference_of
-row3 = ((ltb-true 2 256 refl, refl, (refl, refl, refl)), refl)
+row3 = ((ltb-true 2 256 refl, (refl, refl, refl)), refl)
 
 row4 : Leaves (sources_of (op.Move sizes.Byte)) 1 (temps 127 16045690984833335023 127 16045690984833335023 16045690984833335023)
 unfolding sources_of sum_of difference_of
-row4 = ((ltb-true 127 256 refl, refl, (refl, refl, refl)), refl)
+row4 = ((ltb-true 127 256 refl, (refl, refl, refl)), refl)
 
 row5 : Leaves (sources_of (op.Move sizes.Byte)) 9 (temps 128 16045690984833335023 128 16045690984833335023 16045690984833335023)
 unfolding sources_of sum_of difference_of
-row5 = ((ltb-true 128 256 refl, refl, (refl, refl, refl)), refl)
+row5 = ((ltb-true 128 256 refl, (refl, refl, refl)), refl)
 
 row6 : Leaves (sources_of (op.Move sizes.Byte)) 9 (temps 129 16045690984833335023 129 16045690984833335023 16045690984833335023)
 unfolding sources_of sum_of difference_of
-row6 = ((ltb-true 129 256 refl, refl, (refl, refl, refl)), refl)
+row6 = ((ltb-true 129 256 refl, (refl, refl, refl)), refl)
 
 row7 : Leaves (sources_of (op.Move sizes.Byte)) 9 (temps 255 16045690984833335023 255 16045690984833335023 16045690984833335023)
 unfolding sources_of sum_of difference_of
-row7 = ((ltb-true 255 256 refl, refl, (refl, refl, refl)), refl)
+row7 = ((ltb-true 255 256 refl, (refl, refl, refl)), refl)
 
 row8 : Leaves (sources_of (op.Move sizes.Word)) 5 (temps 0 16045690984833335023 0 16045690984833335023 16045690984833335023)
 unfolding sources_of sum_of difference_of
-row8 = ((ltb-true 0 65536 refl, refl, (refl, refl, refl)), refl)
+row8 = ((ltb-true 0 65536 refl, (refl, refl, refl)), refl)
 
 row9 : Leaves (sources_of (op.Move sizes.Word)) 1 (temps 1 16045690984833335023 1 16045690984833335023 16045690984833335023)
 unfolding sources_of sum_of difference_of
-row9 = ((ltb-true 1 65536 refl, refl, (refl, refl, refl)), refl)
+row9 = ((ltb-true 1 65536 refl, (refl, refl, refl)), refl)
 
 row10 : Leaves (sources_of (op.Move sizes.Word)) 1 (temps 2 16045690984833335023 2 16045690984833335023 16045690984833335023)
 unfolding sources_of sum_of difference_of
-row10 = ((ltb-true 2 65536 refl, refl, (refl, refl, refl)), refl)
+row10 = ((ltb-true 2 65536 refl, (refl, refl, refl)), refl)
 
 row11 : Leaves (sources_of (op.Move sizes.Word)) 1 (temps 32767 16045690984833335023 32767 16045690984833335023 16045690984833335023)
 unfolding sources_of sum_of difference_of
-row11 = ((ltb-true 32767 65536 refl, refl, (refl, refl, refl)), refl)
+row11 = ((ltb-true 32767 65536 refl, (refl, refl, refl)), refl)
 
 row12 : Leaves (sources_of (op.Move sizes.Word)) 9 (temps 32768 16045690984833335023 32768 16045690984833335023 16045690984833335023)
 unfolding sources_of sum_of difference_of
-row12 = ((ltb-true 32768 65536 refl, refl, (refl, refl, refl)), refl)
+row12 = ((ltb-true 32768 65536 refl, (refl, refl, refl)), refl)
 
 row13 : Leaves (sources_of (op.Move sizes.Word)) 9 (temps 32769 16045690984833335023 32769 16045690984833335023 16045690984833335023)
 unfolding sources_of sum_of difference_of
-row13 = ((ltb-true 32769 65536 refl, refl, (refl, refl, refl)), refl)
+row13 = ((ltb-true 32769 65536 refl, (refl, refl, refl)), refl)
 
 row14 : Leaves (sources_of (op.Move sizes.Word)) 9 (temps 65535 16045690984833335023 65535 16045690984833335023 16045690984833335023)
 unfolding sources_of sum_of difference_of
-row14 = ((ltb-true 65535 65536 refl, refl, (refl, refl, refl)), refl)
+row14 = ((ltb-true 65535 65536 refl, (refl, refl, refl)), refl)
 
 row15 : Leaves (sources_of (op.Move sizes.Long)) 5 (temps 0 16045690984833335023 0 16045690984833335023 16045690984833335023)
 unfolding sources_of sum_of difference_of
-row15 = ((ltb-true 0 4294967296 refl, refl, (refl, refl, refl)), refl)
+row15 = ((ltb-true 0 4294967296 refl, (refl, refl, refl)), refl)
 
 row16 : Leaves (sources_of (op.Move sizes.Long)) 1 (temps 1 16045690984833335023 1 16045690984833335023 16045690984833335023)
 unfolding sources_of sum_of difference_of
-row16 = ((ltb-true 1 4294967296 refl, refl, (refl, refl, refl)), refl)
+row16 = ((ltb-true 1 4294967296 refl, (refl, refl, refl)), refl)
 
 row17 : Leaves (sources_of (op.Move sizes.Long)) 1 (temps 2 16045690984833335023 2 16045690984833335023 16045690984833335023)
 unfolding sources_of sum_of difference_of
-row17 = ((ltb-true 2 4294967296 refl, refl, (refl, refl, refl)), refl)
+row17 = ((ltb-true 2 4294967296 refl, (refl, refl, refl)), refl)
 
 row18 : Leaves (sources_of (op.Move sizes.Long)) 1 (temps 2147483647 16045690984833335023 2147483647 16045690984833335023 16045690984833335023)
 unfolding sources_of sum_of difference_of
-row18 = ((ltb-true 2147483647 4294967296 refl, refl, (refl, refl, refl)), refl)
+row18 = ((ltb-true 2147483647 4294967296 refl, (refl, refl, refl)), refl)
 
 row19 : Leaves (sources_of (op.Move sizes.Long)) 9 (temps 2147483648 16045690984833335023 2147483648 16045690984833335023 16045690984833335023)
 unfolding sources_of sum_of difference_of
-row19 = ((ltb-true 2147483648 4294967296 refl, refl, (refl, refl, refl)), refl)
+row19 = ((ltb-true 2147483648 4294967296 refl, (refl, refl, refl)), refl)
 
 row20 : Leaves (sources_of (op.Move sizes.Long)) 9 (temps 2147483649 16045690984833335023 2147483649 16045690984833335023 16045690984833335023)
 unfolding sources_of sum_of difference_of
-row20 = ((ltb-true 2147483649 4294967296 refl, refl, (refl, refl, refl)), refl)
+row20 = ((ltb-true 2147483649 4294967296 refl, (refl, refl, refl)), refl)
 
 row21 : Leaves (sources_of (op.Move sizes.Long)) 9 (temps 4294967295 16045690984833335023 4294967295 16045690984833335023 16045690984833335023)
 unfolding sources_of sum_of difference_of
-row21 = ((ltb-true 4294967295 4294967296 refl, refl, (refl, refl, refl)), refl)
+row21 = ((ltb-true 4294967295 4294967296 refl, (refl, refl, refl)), refl)
 
 row22 : Leaves (sources_of (op.Move sizes.Quad)) 5 (temps 0 16045690984833335023 0 16045690984833335023 16045690984833335023)
 unfolding sources_of sum_of difference_of
-row22 = ((ltb-true 0 18446744073709551616 refl, refl, (refl, refl, refl)), refl)
+row22 = ((ltb-true 0 18446744073709551616 refl, (refl, refl, refl)), refl)
 
 row23 : Leaves (sources_of (op.Move sizes.Quad)) 1 (temps 1 16045690984833335023 1 16045690984833335023 16045690984833335023)
 unfolding sources_of sum_of difference_of
-row23 = ((ltb-true 1 18446744073709551616 refl, refl, (refl, refl, refl)), refl)
+row23 = ((ltb-true 1 18446744073709551616 refl, (refl, refl, refl)), refl)
 
 row24 : Leaves (sources_of (op.Move sizes.Quad)) 1 (temps 2 16045690984833335023 2 16045690984833335023 16045690984833335023)
 unfolding sources_of sum_of difference_of
-row24 = ((ltb-true 2 18446744073709551616 refl, refl, (refl, refl, refl)), refl)
+row24 = ((ltb-true 2 18446744073709551616 refl, (refl, refl, refl)), refl)
 
 row25 : Leaves (sources_of (op.Move sizes.Quad)) 1 (temps 9223372036854775807 16045690984833335023 9223372036854775807 16045690984833335023 16045690984833335023)
 unfolding sources_of sum_of difference_of
-row25 = ((ltb-true 9223372036854775807 18446744073709551616 refl, refl, (refl, refl, refl)), refl)
+row25 = ((ltb-true 9223372036854775807 18446744073709551616 refl, (refl, refl, refl)), refl)
 
 row26 : Leaves (sources_of (op.Move sizes.Quad)) 9 (temps 9223372036854775808 16045690984833335023 9223372036854775808 16045690984833335023 16045690984833335023)
 unfolding sources_of sum_of difference_of
-row26 = ((ltb-true 9223372036854775808 18446744073709551616 refl, refl, (refl, refl, refl)), refl)
+row26 = ((ltb-true 9223372036854775808 18446744073709551616 refl, (refl, refl, refl)), refl)
 
 row27 : Leaves (sources_of (op.Move sizes.Quad)) 9 (temps 9223372036854775809 16045690984833335023 9223372036854775809 16045690984833335023 16045690984833335023)
 unfolding sources_of sum_of difference_of
-row27 = ((ltb-true 9223372036854775809 18446744073709551616 refl, refl, (refl, refl, refl)), refl)
+row27 = ((ltb-true 9223372036854775809 18446744073709551616 refl, (refl, refl, refl)), refl)
 
 row28 : Leaves (sources_of (op.Move sizes.Quad)) 9 (temps 18446744073709551615 16045690984833335023 18446744073709551615 16045690984833335023 16045690984833335023)
 unfolding sources_of sum_of difference_of
-row28 = ((ltb-true 18446744073709551615 18446744073709551616 refl, refl, (refl, refl, refl)), refl)
+row28 = ((ltb-true 18446744073709551615 18446744073709551616 refl, (refl, refl, refl)), refl)
 
 row29 : Leaves (sources_of (op.Test Byte)) 4 (temps 0 16045690984833335023 0 16045690984833335023 16045690984833335023)
 unfolding sources_of sum_of difference_of
-row29 = ((ltb-true 0 256 refl, refl, (refl, refl, refl)), refl)
+row29 = ((ltb-true 0 256 refl, (refl, refl, refl)), refl)
 
 row30 : Leaves (sources_of (op.Test Byte)) 0 (temps 1 16045690984833335023 1 16045690984833335023 16045690984833335023)
 unfolding sources_of sum_of difference_of
-row30 = ((ltb-true 1 256 refl, refl, (refl, refl, refl)), refl)
+row30 = ((ltb-true 1 256 refl, (refl, refl, refl)), refl)
 
 row31 : Leaves (sources_of (op.Test Byte)) 0 (temps 2 16045690984833335023 2 16045690984833335023 16045690984833335023)
 unfolding sources_of sum_of difference_of
-row31 = ((ltb-true 2 256 refl, refl, (refl, refl, refl)), refl)
+row31 = ((ltb-true 2 256 refl, (refl, refl, refl)), refl)
 
 row32 : Leaves (sources_of (op.Test Byte)) 0 (temps 127 16045690984833335023 127 16045690984833335023 16045690984833335023)
 unfolding sources_of sum_of difference_of
-row32 = ((ltb-true 127 256 refl, refl, (refl, refl, refl)), refl)
+row32 = ((ltb-true 127 256 refl, (refl, refl, refl)), refl)
 
 row33 : Leaves (sources_of (op.Test Byte)) 8 (temps 128 16045690984833335023 128 16045690984833335023 16045690984833335023)
 unfolding sources_of sum_of difference_of
-row33 = ((ltb-true 128 256 refl, refl, (refl, refl, refl)), refl)
+row33 = ((ltb-true 128 256 refl, (refl, refl, refl)), refl)
 
 row34 : Leaves (sources_of (op.Test Byte)) 8 (temps 129 16045690984833335023 129 16045690984833335023 16045690984833335023)
 unfolding sources_of sum_of difference_of
-row34 = ((ltb-true 129 256 refl, refl, (refl, refl, refl)), refl)
+row34 = ((ltb-true 129 256 refl, (refl, refl, refl)), refl)
 
 row35 : Leaves (sources_of (op.Test Byte)) 8 (temps 255 16045690984833335023 255 16045690984833335023 16045690984833335023)
 unfolding sources_of sum_of difference_of
-row35 = ((ltb-true 255 256 refl, refl, (refl, refl, refl)), refl)
+row35 = ((ltb-true 255 256 refl, (refl, refl, refl)), refl)
 
 row36 : Leaves (sources_of (op.Test Word)) 4 (temps 0 16045690984833335023 0 16045690984833335023 16045690984833335023)
 unfolding sources_of sum_of difference_of
-row36 = ((ltb-true 0 65536 refl, refl, (refl, refl, refl)), refl)
+row36 = ((ltb-true 0 65536 refl, (refl, refl, refl)), refl)
 
 row37 : Leaves (sources_of (op.Test Word)) 0 (temps 1 16045690984833335023 1 16045690984833335023 16045690984833335023)
 unfolding sources_of sum_of difference_of
-row37 = ((ltb-true 1 65536 refl, refl, (refl, refl, refl)), refl)
+row37 = ((ltb-true 1 65536 refl, (refl, refl, refl)), refl)
 
 row38 : Leaves (sources_of (op.Test Word)) 0 (temps 2 16045690984833335023 2 16045690984833335023 16045690984833335023)
 unfolding sources_of sum_of difference_of
-row38 = ((ltb-true 2 65536 refl, refl, (refl, refl, refl)), refl)
+row38 = ((ltb-true 2 65536 refl, (refl, refl, refl)), refl)
 
 row39 : Leaves (sources_of (op.Test Word)) 0 (temps 32767 16045690984833335023 32767 16045690984833335023 16045690984833335023)
 unfolding sources_of sum_of difference_of
-row39 = ((ltb-true 32767 65536 refl, refl, (refl, refl, refl)), refl)
+row39 = ((ltb-true 32767 65536 refl, (refl, refl, refl)), refl)
 
 row40 : Leaves (sources_of (op.Test Word)) 8 (temps 32768 16045690984833335023 32768 16045690984833335023 16045690984833335023)
 unfolding sources_of sum_of difference_of
-row40 = ((ltb-true 32768 65536 refl, refl, (refl, refl, refl)), refl)
+row40 = ((ltb-true 32768 65536 refl, (refl, refl, refl)), refl)
 
 row41 : Leaves (sources_of (op.Test Word)) 8 (temps 32769 16045690984833335023 32769 16045690984833335023 16045690984833335023)
 unfolding sources_of sum_of difference_of
-row41 = ((ltb-true 32769 65536 refl, refl, (refl, refl, refl)), refl)
+row41 = ((ltb-true 32769 65536 refl, (refl, refl, refl)), refl)
 
 row42 : Leaves (sources_of (op.Test Word)) 8 (temps 65535 16045690984833335023 65535 16045690984833335023 16045690984833335023)
 unfolding sources_of sum_of difference_of
-row42 = ((ltb-true 65535 65536 refl, refl, (refl, refl, refl)), refl)
+row42 = ((ltb-true 65535 65536 refl, (refl, refl, refl)), refl)
 
 row43 : Leaves (sources_of (op.Test Long)) 4 (temps 0 16045690984833335023 0 16045690984833335023 16045690984833335023)
 unfolding sources_of sum_of difference_of
-row43 = ((ltb-true 0 4294967296 refl, refl, (refl, refl, refl)), refl)
+row43 = ((ltb-true 0 4294967296 refl, (refl, refl, refl)), refl)
 
 row44 : Leaves (sources_of (op.Test Long)) 0 (temps 1 16045690984833335023 1 16045690984833335023 16045690984833335023)
 unfolding sources_of sum_of difference_of
-row44 = ((ltb-true 1 4294967296 refl, refl, (refl, refl, refl)), refl)
+row44 = ((ltb-true 1 4294967296 refl, (refl, refl, refl)), refl)
 
 row45 : Leaves (sources_of (op.Test Long)) 0 (temps 2 16045690984833335023 2 16045690984833335023 16045690984833335023)
 unfolding sources_of sum_of difference_of
-row45 = ((ltb-true 2 4294967296 refl, refl, (refl, refl, refl)), refl)
+row45 = ((ltb-true 2 4294967296 refl, (refl, refl, refl)), refl)
 
 row46 : Leaves (sources_of (op.Test Long)) 0 (temps 2147483647 16045690984833335023 2147483647 16045690984833335023 16045690984833335023)
 unfolding sources_of sum_of difference_of
-row46 = ((ltb-true 2147483647 4294967296 refl, refl, (refl, refl, refl)), refl)
+row46 = ((ltb-true 2147483647 4294967296 refl, (refl, refl, refl)), refl)
 
 row47 : Leaves (sources_of (op.Test Long)) 8 (temps 2147483648 16045690984833335023 2147483648 16045690984833335023 16045690984833335023)
 unfolding sources_of sum_of difference_of
-row47 = ((ltb-true 2147483648 4294967296 refl, refl, (refl, refl, refl)), refl)
+row47 = ((ltb-true 2147483648 4294967296 refl, (refl, refl, refl)), refl)
 
 row48 : Leaves (sources_of (op.Test Long)) 8 (temps 2147483649 16045690984833335023 2147483649 16045690984833335023 16045690984833335023)
 unfolding sources_of sum_of difference_of
-row48 = ((ltb-true 2147483649 4294967296 refl, refl, (refl, refl, refl)), refl)
+row48 = ((ltb-true 2147483649 4294967296 refl, (refl, refl, refl)), refl)
 
 row49 : Leaves (sources_of (op.Test Long)) 8 (temps 4294967295 16045690984833335023 4294967295 16045690984833335023 16045690984833335023)
 unfolding sources_of sum_of difference_of
-row49 = ((ltb-true 4294967295 4294967296 refl, refl, (refl, refl, refl)), refl)
+row49 = ((ltb-true 4294967295 4294967296 refl, (refl, refl, refl)), refl)
 
 row50 : Leaves (sources_of op.ExtendedMultiply) 4 (temps 0 16045690984833335023 0 16045690984833335023 16045690984833335023)
 unfolding sources_of sum_of difference_of
-row50 = ((ltb-true 0 18446744073709551616 refl, refl, (refl, refl, refl)), refl)
+row50 = ((ltb-true 0 18446744073709551616 refl, (refl, refl, refl)), refl)
 
 row51 : Leaves (sources_of op.ExtendedMultiply) 0 (temps 1 16045690984833335023 1 16045690984833335023 16045690984833335023)
 unfolding sources_of sum_of difference_of
-row51 = ((ltb-true 1 18446744073709551616 refl, refl, (refl, refl, refl)), refl)
+row51 = ((ltb-true 1 18446744073709551616 refl, (refl, refl, refl)), refl)
 
 row52 : Leaves (sources_of op.ExtendedMultiply) 0 (temps 2 16045690984833335023 2 16045690984833335023 16045690984833335023)
 unfolding sources_of sum_of difference_of
-row52 = ((ltb-true 2 18446744073709551616 refl, refl, (refl, refl, refl)), refl)
+row52 = ((ltb-true 2 18446744073709551616 refl, (refl, refl, refl)), refl)
 
 row53 : Leaves (sources_of op.ExtendedMultiply) 0 (temps 9223372036854775807 16045690984833335023 9223372036854775807 16045690984833335023 16045690984833335023)
 unfolding sources_of sum_of difference_of
-row53 = ((ltb-true 9223372036854775807 18446744073709551616 refl, refl, (refl, refl, refl)), refl)
+row53 = ((ltb-true 9223372036854775807 18446744073709551616 refl, (refl, refl, refl)), refl)
 
 row54 : Leaves (sources_of op.ExtendedMultiply) 8 (temps 9223372036854775808 16045690984833335023 9223372036854775808 16045690984833335023 16045690984833335023)
 unfolding sources_of sum_of difference_of
-row54 = ((ltb-true 9223372036854775808 18446744073709551616 refl, refl, (refl, refl, refl)), refl)
+row54 = ((ltb-true 9223372036854775808 18446744073709551616 refl, (refl, refl, refl)), refl)
 
 row55 : Leaves (sources_of op.ExtendedMultiply) 8 (temps 9223372036854775809 16045690984833335023 9223372036854775809 16045690984833335023 16045690984833335023)
 unfolding sources_of sum_of difference_of
-row55 = ((ltb-true 9223372036854775809 18446744073709551616 refl, refl, (refl, refl, refl)), refl)
+row55 = ((ltb-true 9223372036854775809 18446744073709551616 refl, (refl, refl, refl)), refl)
 
 row56 : Leaves (sources_of op.ExtendedMultiply) 8 (temps 18446744073709551615 16045690984833335023 18446744073709551615 16045690984833335023 16045690984833335023)
 unfolding sources_of sum_of difference_of
-row56 = ((ltb-true 18446744073709551615 18446744073709551616 refl, refl, (refl, refl, refl)), refl)
+row56 = ((ltb-true 18446744073709551615 18446744073709551616 refl, (refl, refl, refl)), refl)
 
 row57 : Leaves (sources_of (op.TwoOperands Add Byte)) 4 (temps 0 0 0 16045690984833335023 16045690984833335023)
 unfolding sources_of sum_of difference_of

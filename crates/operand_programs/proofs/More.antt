@@ -290,7 +290,7 @@ module _ (known more : Known) (m : KnowsMore known more) where
   signs_still : (source : CodeSource) → Implies (signs_are_held known source) (signs_are_held more source)
   signs_still sources.Kept = itself _
   signs_still sources.Zero = itself _
-  signs_still (sources.Result size) = two 0 2
+  signs_still (sources.Result size) = still_holds 2
   signs_still (sources.Add size) = three 0 1 2
   signs_still (sources.Sub size) = three 0 1 2
   signs_still (sources.Compare size) = two 0 1

@@ -69,9 +69,7 @@ pub signs_by : (source : CodeSource) (psw psw' : ℕ) (temps other : Temps) (kno
     → SignsComeFrom source psw psw' temps → SignsComeFrom source psw psw' other
 signs_by Kept psw psw' temps other known same e h = h
 signs_by Zero psw psw' temps other known same e h = h
-signs_by (Result size) psw psw' temps other known same e h =
-    let x = and_parts (holds known 0) (holds known 2) e in
-    rw (same 0 (lit< tt) x.0, same 2 (lit< tt) x.1) h
+signs_by (Result size) psw psw' temps other known same e h = rw (same 2 (lit< tt) e) h
 signs_by (Add size) psw psw' temps other known same e h =
     let x = all_three (holds known 0) (holds known 1) (holds known 2) e in
     rw (same 0 (lit< tt) x.0, same 1 (lit< tt) x.1, same 2 (lit< tt) x.2) h

@@ -1,7 +1,8 @@
 -- The lines of MOVC3 by themselves: its operations, their encodings, their points, where they go, and how many they are.
-use Rattle.std.proofs.Common.{◌≡◌, ℕ, zero, suc, ◌+◌, ◌-◌, ◌%◌, ◌^◌, ◌<◌, ◌≤◌, refl, ap, ◌∙◌, arith, rules, List, [], ◌∷◌, ◌++◌, length, length-append, map, Some, Bool, true, false, lit<, lit≤}
+use Rattle.std.proofs.Common.{◌≡◌, ℕ, zero, suc, ◌+◌, ◌-◌, ◌%◌, ◌^◌, ◌<◌, ◌≤◌, refl, ap, ◌∙◌, arith, rules, List, [], ◌∷◌, ◌++◌, length, length-append, map, Bool, true, false, inl, inr, lit<, lit≤}
 use Rattle.std.specs.Prelude.{◌==◌, ◌||◌, nat_lt, slice_index, if◌then◌else◌}
 use Rattle.std.specs.List.{list_all, list_any}
+use Rattle.std.proofs.lemmas.Bool.Decides.{eqb_tells}
 use Rattle.std.proofs.lemmas.List.Folds.{list_any-append}
 use Rattle.vax_form.specs.Targets.{operand_of}
 use Rattle.vax_form.specs.declared.instr.Instr.{Instr}
@@ -23,7 +24,7 @@ use Rattle.micro_ops.proofs.Walks.{words_joined}
 use Rattle.operand_programs.specs.Behind.{AreFit}
 use Rattle.operand_programs.specs.InOrder.{no_steps}
 use Rattle.operand_programs.specs.Operands.{operand_program, steps_behind_specifier}
-use Rattle.operand_programs.specs.Specifiers.{locate_program, place_program, read_program}
+use Rattle.operand_programs.specs.Specifiers.{locate_program, low_bytes_program, place_program, read_program}
 use Rattle.operand_programs.specs.Words.{words_of_steps}
 use Rattle.operand_programs.specs.declared.operands.Specifier.{Specifier}
 use Rattle.operand_programs.proofs.Low.{joined_low, operand_is_low}
@@ -33,7 +34,7 @@ use Rattle.program_codegen.specs.declared.points.Site.{Site}
 use Rattle.program_codegen.specs.Programs.{AllHaveWords}
 use Rattle.program_codegen.specs.Words.{exit_lines, plain, program_lines, words_of}
 use Rattle.program_codegen.specs.Strings.{behind_words, destination_specifier, length_specifier, move_words, moved_words, operands_of, source_specifier, specifiers_of, step_words, steps_from, steps_of, string_check}
-use Rattle.program_codegen.proofs.CallOperations.{is_evaluation, joined, place_is, sum_is}
+use Rattle.program_codegen.proofs.CallOperations.{is_evaluation, joined, place_is}
 use Rattle.program_codegen.proofs.CallShapes.{evaluation_lines}
 use Rattle.program_codegen.proofs.Fronts.{free_keeps, quiet_keeps, row_targets, row_words_are, targets, targets_append, words_append}
 use Rattle.program_codegen.proofs.Rows.{is_free, list_all_of}
@@ -44,9 +45,12 @@ use Rattle.program_codegen.proofs.StringSteps.{behind_is_operate}
 use Rattle.program_codegen.proofs.Walk.{plain_length}
 
 -- ---- operations
+low_bytes_are : (n offset : ℕ) → list_all is_evaluation (low_bytes_program n Word offset 0) ≡ true
+low_bytes_are n offset = elim (eqb_tells offset 0) [ inl is ↦ rw is.0 refl | inr not ↦ rw not.0 refl ]
+
 word_is : (operand : Operand) (steps : List ℕ) → list_all is_evaluation (read_program operand Word steps 0 1) ≡ true
 word_is (operands.Value value) steps = refl
-word_is (operands.Register n) steps = rw (sum_is 0 (Some n) (slice_index steps n) refl) refl
+word_is (operands.Register n) steps = low_bytes_are n (slice_index steps n)
 word_is (operands.Place base index) steps = joined is_evaluation (place_program base index Word steps 1 0) (Probe 1 2 false ∷ Read 0 1 2 ∷ []) (place_is base index Word steps 1 0 refl refl) refl
 word_is operands.Unused steps = refl
 word_is (operands.Target address) steps = refl

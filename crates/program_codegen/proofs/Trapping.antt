@@ -103,7 +103,7 @@ kept_zero : (source : CodeSource) (known : Known) (standing : Standing) (found :
     → SignsComeFrom source found standing.state.psw standing.temps → standing.overflowed ≡ false
 kept_zero Kept known standing found e codes psw over none signs = none (same_false known.codes codes)
 kept_zero Zero known standing found e codes psw over none signs = not_set standing.overflowed (flag_of 2 standing.state.psw) (over (same_true known.codes codes) (same_false known.psw psw)) signs.2
-kept_zero (Result size) known standing found e codes psw over none signs = not_set standing.overflowed (flag_of 2 standing.state.psw) (over (same_true known.codes codes) (same_false known.psw psw)) signs.2.2
+kept_zero (Result size) known standing found e codes psw over none signs = not_set standing.overflowed (flag_of 2 standing.state.psw) (over (same_true known.codes codes) (same_false known.psw psw)) signs.1.2
 kept_zero (Add size) known standing found e codes psw over none signs = absurd (cc e)
 kept_zero (Sub size) known standing found e codes psw over none signs = absurd (cc e)
 kept_zero (Compare size) known standing found e codes psw over none signs = not_set standing.overflowed (flag_of 2 standing.state.psw) (over (same_true known.codes codes) (same_false known.psw psw)) signs.1.2
