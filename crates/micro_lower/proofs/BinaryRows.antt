@@ -13,7 +13,7 @@ use Rattle.vax_form.specs.declared.state.VaxState.{VaxState}
 use Rattle.vax_meaning.specs.Codes.{carry_of}
 use Rattle.vax_meaning.specs.Evaluation.{operand}
 use Rattle.vax_meaning.specs.Instructions.{body}
-use Rattle.vt_words.specs.Values.{bit}
+use Rattle.vt_words.specs.Values.{bit, fits}
 use Rattle.vt_words.specs.declared.arithmetic.Coded.{Coded}
 use Rattle.micro_ops.specs.Sources.{sources_of, from}
 use Rattle.micro_ops.specs.Values.{limit_of, value_from, computed}
@@ -34,7 +34,11 @@ use Rattle.vt_words.specs.Arithmetic.{difference_of}
 use Rattle.micro_ops.specs.declared.codes.CodeSource.TheVariants.{Sub}
 use Rattle.micro_lower.proofs.Given.{value_coded, coded_end_of, gives_as, result_ready}
 use Rattle.micro_lower.proofs.Overflow.{IsNarrow}
-use Rattle.std.specs.Prelude.{◌*ℤ◌}
+use Rattle.std.specs.Prelude.{◌*ℤ◌, Bool, List, not}
+use Rattle.std.proofs.lemmas.Bool.Decides.{nat_tests}
+use Rattle.std.proofs.lemmas.Int.{ints}
+use Rattle.micro_ops.specs.declared.program.Micro.{Micro}
+use Rattle.vax_form.specs.declared.instr.Width.TheVariants as widths
 use Rattle.std.proofs.Common.{add-zero}
 use Rattle.std.proofs.lemmas.Nat.{and_le_l, and_mod}
 use Rattle.vax_form.specs.declared.operation.BinaryOperation.{BinaryOperation}
@@ -46,7 +50,7 @@ use Rattle.vt_words.specs.Values.{value_of}
 use Rattle.micro_ops.specs.Sources.{sources_of_binary}
 use Rattle.micro_ops.specs.Values.{bits_of, signed}
 use Rattle.micro_ops.specs.declared.codes.CodeSource.TheVariants.{Add, Computed, Zero}
-use Rattle.micro_lower.specs.Rows.{divides, micro_of, made_size, behind_binary, convert_plan, two_operands_plan, three_operands_plan, by_one_plan}
+use Rattle.micro_lower.specs.Rows.{divides, micro_of, made_size, behind_binary, is_extension, behind_conversion, convert_plan, convert_plan_with, two_operands_plan, three_operands_plan, by_one_plan}
 use Rattle.micro_lower.proofs.Fitting.{does_differ, value_below, product_wide, product_small, product_low}
 use Rattle.micro_lower.proofs.Overflow.{signed_wide, signed_small, low_of, as_quad}
 use Rattle.micro_lower.proofs.Given.{replaces_as}
@@ -71,22 +75,50 @@ converted from to v lt = ap (λ n. n % limit_of to) (sym (signed_wide from v lt)
 far_below : (x : ℕ) → x ≤ 2 ^ 31 → x < 2 ^ 63
 far_below x le = omega (arith, le)
 
-pub convert_all : (from to : Width) (instr : Instr) → IsGivable (operand instr 1) (size_of to) → AllDo (operations.Convert from to) instr (convert_plan from to instr)
+-- an extension fits
+extension_fits : (from to : Width) (x : ℕ) → is_extension from to ≡ true → x < limit_of (size_of from) → fits (bytes_of (size_of to)) (signed (size_of from) x) ≡ true
+extension_fits widths.Byte widths.Word x is lt = grind (arith, nat_tests, ints)
+extension_fits widths.Byte widths.Long x is lt = grind (arith, nat_tests, ints)
+extension_fits widths.Word widths.Long x is lt = grind (arith, nat_tests, ints)
+extension_fits from to x is lt = absurd (cc is)
+
+-- the codes of a conversion, by what computes V
+convert_with : (behind : List Micro) (from to : Width) (instr : Instr) → IsGivable (operand instr 1) (size_of to) → list_all is_computation behind ≡ true
+    → ((found : Found) (temps : Temps) → effect behind found temps 2 ≡ temps 2)
+    → ((found : Found) (temps : Temps) → temps 2 ≡ (conversion_of (bytes_of (size_of from)) (bytes_of (size_of to)) (temps 0 % limit_of (size_of from))).value
+    → effect behind found temps 3 ≡ bit (conversion_of (bytes_of (size_of from)) (bytes_of (size_of to)) (temps 0 % limit_of (size_of from))).v)
+    → AllDo (operations.Convert from to) instr (convert_plan_with behind from to instr)
 unfolding body give_coded sources_of value_from conversion_of
-convert_all from to instr givable state pages thread temps values ok same left =
+convert_with behind from to instr givable all kept overflows state pages thread temps values ok same left =
     let size = size_of to in
-    let plan = convert_plan from to instr in
+    let plan = convert_plan_with behind from to instr in
     let x = temps 0 % limit_of (size_of from) in
     let below = low_below (size_of from) (temps 0) in
     let coded = conversion_of (bytes_of (size_of from)) (bytes_of size) x in
-    let after = effect plan.before (found_at state instr.after) temps in
-    let behind = effect plan.behind (found_at state instr.after) after in
+    let found = found_at state instr.after in
+    let after = effect plan.before found temps in
     let made : after 2 ≡ coded.value = converted (size_of from) size x below in
-    let v : behind 3 ≡ bit coded.v = does_differ size (signed (size_of from) x) (behind 4) (behind 2) (narrow_width to) (far_below _ (signed_small (size_of from) x (narrow_width from) below)) (sym (signed_wide (size_of from) x below)) made in
+    let left_2 : effect behind found after 2 ≡ coded.value = kept found after ∙ made in
     read_and_write values temps (BodyDoes (operations.Convert from to) instr plan state pages thread temps) (size_of from) (operand instr 0) 0 1 size (operand instr 1) left (λ location was at.
-    gives_as (Computed size) Zero state pages thread instr.after ok size (operand instr 1) (steps_of plan.slots instr) same location coded after plan.behind refl
-    at givable made (value_below size _) refl (((rw made (value_below size _), rw made refl, rw made refl), v), refl) Next tt instr.after refl
+    gives_as (Computed size) Zero state pages thread instr.after ok size (operand instr 1) (steps_of plan.slots instr) same location coded after behind all
+    at givable made (value_below size _) (kept found after) (((rw left_2 (value_below size _), rw left_2 refl, rw left_2 refl), overflows found after made), refl) Next tt instr.after refl
     (coded_end_of pages coded instr.after) (λ s e. refl))
+
+pub convert_all : (from to : Width) (instr : Instr) → IsGivable (operand instr 1) (size_of to) → AllDo (operations.Convert from to) instr (convert_plan from to instr)
+unfolding value_from conversion_of
+convert_all from to instr givable = by (is_extension from to) refl
+  where
+    by : (extension : Bool) → is_extension from to ≡ extension → AllDo (operations.Convert from to) instr (convert_plan_with (behind_conversion extension (size_of from) (size_of to)) from to instr)
+    by true is =
+        convert_with (behind_conversion true (size_of from) (size_of to)) from to instr givable refl (λ found temps. refl)
+        (λ found temps made. sym (ap (λ b. bit (not b)) (extension_fits from to (temps 0 % limit_of (size_of from)) is (low_below (size_of from) (temps 0)))))
+    by false is =
+        convert_with (behind_conversion false (size_of from) (size_of to)) from to instr givable refl (λ found temps. refl)
+        (λ found temps made.
+        let x = temps 0 % limit_of (size_of from) in
+        let below = low_below (size_of from) (temps 0) in
+        let behind = effect (behind_conversion false (size_of from) (size_of to)) found temps in
+        does_differ (size_of to) (signed (size_of from) x) (behind 4) (behind 2) (narrow_width to) (far_below _ (signed_small (size_of from) x (narrow_width from) below)) (sym (signed_wide (size_of from) x below)) made)
 
 -- what the codes of an operation come from
 abbrev pub binary_ready : BinaryOperation → (size : Size) (start : VaxState) (temps : Temps) → Coded → Type 0

@@ -36,7 +36,7 @@ use Rattle.operand_programs.specs.Operands.{IsTarget}
 use Rattle.micro_lower.specs.Lowering.{AreLongOperands, KeepsTo, computes_address}
 use Rattle.micro_lower.specs.Plans.{Plan, program_of, unary}
 use Rattle.micro_lower.specs.Programs.{flags_of, is_negated, flag_test, condition_exit, branch_if_program, subroutine_program, return_program, plain_program_of}
-use Rattle.micro_lower.specs.Rows.{move_row, arithmetic_row, control_row, own_program_of, row_program_of, branch_exit, move_plan, clear_plan, move_zero_extended_plan, move_complemented_plan, move_negated_plan, convert_plan, move_address_plan, push_address_plan, push_long_plan, compare_plan, test_plan, bit_test_plan, by_one_plan, two_operands_plan, three_operands_plan, low_bit_plan, subtract_one_plan, add_one_plan, add_compare_plan, jump_plan, jump_to_subroutine_plan, add_with_carry_plan, change_mode_plan, subtract_with_carry_plan, rotate_plan, arithmetic_shift_plan, shifted_by, overflow_of_shift_by, before_shift, behind_shift, before_rotation, change_psw_plan, bit_tested, bit_stored, byte_program, before_bit, literal_position, masked, mask_stored, mask_program, byte_of, before_literal, before_bit_at, test_exit, bit_branch_plan, before_aligned, add_aligned_plan, move_psl_plan}
+use Rattle.micro_lower.specs.Rows.{move_row, is_extension, behind_conversion, arithmetic_row, control_row, own_program_of, row_program_of, branch_exit, move_plan, clear_plan, move_zero_extended_plan, move_complemented_plan, move_negated_plan, convert_plan, move_address_plan, push_address_plan, push_long_plan, compare_plan, test_plan, bit_test_plan, by_one_plan, two_operands_plan, three_operands_plan, low_bit_plan, subtract_one_plan, add_one_plan, add_compare_plan, jump_plan, jump_to_subroutine_plan, add_with_carry_plan, change_mode_plan, subtract_with_carry_plan, rotate_plan, arithmetic_shift_plan, shifted_by, overflow_of_shift_by, before_shift, behind_shift, before_rotation, change_psw_plan, bit_tested, bit_stored, byte_program, before_bit, literal_position, masked, mask_stored, mask_program, byte_of, before_literal, before_bit_at, test_exit, bit_branch_plan, before_aligned, add_aligned_plan, move_psl_plan}
 use Rattle.micro_lower.proofs.Covered.{targeted}
 use Rattle.micro_lower.proofs.Inner.{IsInner, joined}
 use Rattle.micro_lower.proofs.Keeping.{Ends, ExitKeeps, IsFixed, keeps, ends_here, next_keeps, breakpoint_keeps, branch_fixed, fixed_keeps, choice_keeps, choice_kept, computed_keeps, jump_computes_for, jump_keeps, plan_keeps}
@@ -227,6 +227,11 @@ test_keeps : (operation : Operation) (instr : Instr) → operation_at instr.opco
 test_keeps operation instr is ends true number displaced = branch_keeps operation instr is ends number displaced
 test_keeps operation instr is ends false number displaced = choice_kept operation instr is ends 0 (target (operand instr number)) (branch_fixed instr number displaced)
 
+-- a conversion, by whether it extends
+conversion_inner : (set : Flags) (extension : Bool) (from to : Size) → IsInner set (unary 2 ops.SignExtend from (Temp 0) ∷ unary 2 ops.Move to (Temp 2) ∷ behind_conversion extension from to)
+conversion_inner set true from to = refl
+conversion_inner set false from to = refl
+
 next_row : (operation : Operation) (instr : Instr) (plan : Plan) (program : List Micro) → operation_at instr.opcode ≡ Some operation
     → IsInner (code_use_of operation).reads (plan.before ++ plan.behind) → plan.exit ≡ exits.Next → computes_address operation instr ≡ false
     → Some (program_of (sources_of operation) plan instr) ≡ Some program → KeepsTo instr program
@@ -250,7 +255,7 @@ rows_keep (operations.MoveZeroExtended from to) instr program spelled long is ro
 rows_keep (operations.Clear size) instr program spelled long is row = next_row (operations.Clear size) instr (clear_plan size instr) program is refl refl refl row
 rows_keep (operations.MoveComplemented width) instr program spelled long is row = next_row (operations.MoveComplemented width) instr (move_complemented_plan width instr) program is refl refl refl row
 rows_keep (operations.MoveNegated width) instr program spelled long is row = next_row (operations.MoveNegated width) instr (move_negated_plan width instr) program is refl refl refl row
-rows_keep (operations.Convert from to) instr program spelled long is row = next_row (operations.Convert from to) instr (convert_plan from to instr) program is refl refl refl row
+rows_keep (operations.Convert from to) instr program spelled long is row = next_row (operations.Convert from to) instr (convert_plan from to instr) program is (conversion_inner _ (is_extension from to) (size_of from) (size_of to)) refl refl row
 rows_keep (operations.MoveAddress size) instr program spelled long is row = next_row (operations.MoveAddress size) instr (move_address_plan size instr) program is refl refl refl row
 rows_keep (operations.PushAddress size) instr program spelled long is row = next_row (operations.PushAddress size) instr (push_address_plan size) program is refl refl refl row
 rows_keep operations.PushLong instr program spelled long is row = next_row operations.PushLong instr (push_long_plan) program is refl refl refl row

@@ -30,7 +30,7 @@ use Rattle.operand_programs.specs.InOrder.{operands_program, steps_behind_all, n
 use Rattle.micro_lower.specs.Lowering.{ProgramsWriteOperands, WritesOperand}
 use Rattle.micro_lower.specs.Plans.{Plan, specifiers_from, rest_program, program_of}
 use Rattle.micro_lower.specs.Programs.{flags_of, flag_test, condition_exit, branch_if_program, plain_program_of}
-use Rattle.micro_lower.specs.Rows.{move_row, arithmetic_row, control_row, own_program_of, row_program_of, program_of_operation, program_for, register_target, before_aligned, add_aligned_plan, behind_binary, low_bit_plan, subtract_one_plan, add_one_plan, bit_tested, bit_stored, byte_program, before_bit, bit_target, literal_position, masked, mask_stored, mask_program, byte_of, before_literal, before_bit_at, bit_branch_plan, factors, product_program, extended_multiply_plan, extended_multiply_program, move_plan, move_zero_extended_plan, clear_plan, move_complemented_plan, move_negated_plan, convert_plan, move_address_plan, push_address_plan, push_long_plan, compare_plan, test_plan, bit_test_plan, two_operands_plan, three_operands_plan, by_one_plan, add_compare_plan, jump_plan, jump_to_subroutine_plan, add_with_carry_plan, subtract_with_carry_plan, arithmetic_shift_plan, rotate_plan, shifted_by, overflow_of_shift_by, before_shift, behind_shift, before_rotation, move_psl_plan, change_psw_plan, change_mode_plan}
+use Rattle.micro_lower.specs.Rows.{move_row, is_extension, behind_conversion, arithmetic_row, control_row, own_program_of, row_program_of, program_of_operation, program_for, register_target, before_aligned, add_aligned_plan, behind_binary, low_bit_plan, subtract_one_plan, add_one_plan, bit_tested, bit_stored, byte_program, before_bit, bit_target, literal_position, masked, mask_stored, mask_program, byte_of, before_literal, before_bit_at, bit_branch_plan, factors, product_program, extended_multiply_plan, extended_multiply_program, move_plan, move_zero_extended_plan, clear_plan, move_complemented_plan, move_negated_plan, convert_plan, move_address_plan, push_address_plan, push_long_plan, compare_plan, test_plan, bit_test_plan, two_operands_plan, three_operands_plan, by_one_plan, add_compare_plan, jump_plan, jump_to_subroutine_plan, add_with_carry_plan, subtract_with_carry_plan, arithmetic_shift_plan, rotate_plan, shifted_by, overflow_of_shift_by, before_shift, behind_shift, before_rotation, move_psl_plan, change_psw_plan, change_mode_plan}
 use Rattle.micro_lower.proofs.Bytes.{HaveBytes, TargetHas, joined, plan_has, push_has, quiet_has, replacement_has, rest_have, result_has}
 use Rattle.micro_lower.proofs.Quiet.{operands_quiet}
 
@@ -44,6 +44,11 @@ module _ (operation : Operation) (plan : Plan) (instr : Instr) where
       → ProgramHas (written_bytes operation) (Some (program_of (sources_of operation) plan instr))
   by_plan before target behind program made =
       subst (HaveBytes (written_bytes operation)) (same_Some _ _ made) (plan_has (written_bytes operation) (sources_of operation) plan instr before target behind)
+
+-- V of a conversion
+conversion_has : (count : ℕ) (extension : Bool) (from to : Size) → HaveBytes count (behind_conversion extension from to)
+conversion_has count true from to = refl
+conversion_has count false from to = refl
 
 -- ---- the parts of a branch on a bit
 stored_has : (count : ℕ) (store : BitStore) → HaveBytes count (bit_stored store)
@@ -185,7 +190,7 @@ rows_have (operations.MoveZeroExtended from to) instr = by_plan (operations.Move
 rows_have (operations.Clear size) instr = by_plan (operations.Clear size) (clear_plan size instr) instr refl (λ steps. result_has (operand instr 0) size 3 2) refl
 rows_have (operations.MoveComplemented width) instr = by_plan (operations.MoveComplemented width) (move_complemented_plan width instr) instr refl (λ steps. result_has (operand instr 1) (size_of width) 3 2) refl
 rows_have (operations.MoveNegated width) instr = by_plan (operations.MoveNegated width) (move_negated_plan width instr) instr refl (λ steps. result_has (operand instr 1) (size_of width) 3 2) refl
-rows_have (operations.Convert from to) instr = by_plan (operations.Convert from to) (convert_plan from to instr) instr refl (λ steps. result_has (operand instr 1) (size_of to) 3 2) refl
+rows_have (operations.Convert from to) instr = by_plan (operations.Convert from to) (convert_plan from to instr) instr refl (λ steps. result_has (operand instr 1) (size_of to) 3 2) (conversion_has _ (is_extension from to) (size_of from) (size_of to))
 rows_have (operations.MoveAddress size) instr = by_plan (operations.MoveAddress size) (move_address_plan size instr) instr refl (λ steps. result_has (operand instr 1) Long 3 2) refl
 rows_have (operations.PushAddress size) instr = by_plan (operations.PushAddress size) (push_address_plan size) instr refl (λ steps. push_has steps 3 2) refl
 rows_have operations.PushLong instr = by_plan operations.PushLong push_long_plan instr refl (λ steps. push_has steps 3 2) refl

@@ -15,6 +15,7 @@ use Rattle.vax_form.specs.declared.instr.Base.TheVariants as bases
 use Rattle.vax_form.specs.declared.instr.Size.{Size}
 use Rattle.vax_form.specs.declared.instr.Size.TheVariants.{Byte, Word, Long, Quad}
 use Rattle.vax_form.specs.declared.instr.Width.{Width}
+use Rattle.vax_form.specs.declared.instr.Width.TheVariants as widths
 use Rattle.vax_form.specs.declared.operation.BinaryOperation.{BinaryOperation}
 use Rattle.vax_form.specs.declared.operation.BinaryOperation.TheVariants as binary
 use Rattle.vax_form.specs.declared.operation.BitBranch.{BitBranch}
@@ -142,15 +143,30 @@ move_negated_plan width instr = record {
   exit = Next;
 }
 
--- CVT
-abbrev pub convert_plan : (from to : Width) → Instr → Plan
-convert_plan from to instr = record {
+-- a longer number holds what a shorter one does
+abbrev pub is_extension : (from to : Width) → Bool
+is_extension widths.Byte widths.Word = true
+is_extension widths.Byte widths.Long = true
+is_extension widths.Word widths.Long = true
+is_extension from to = false
+
+-- V of a conversion: an extension never overflows
+abbrev pub behind_conversion : (extension : Bool) → (from to : Size) → List Micro
+behind_conversion true from to = unary 3 ops.Move Byte (Const 0) ∷ []
+behind_conversion false from to = unary 4 ops.SignExtend from (Temp 0) ∷ overflow_by to
+
+abbrev pub convert_plan_with : (behind : List Micro) → (from to : Width) → Instr → Plan
+convert_plan_with behind from to instr = record {
   slots = read (size_of from) 0 1 ∷ written (size_of to) ∷ [];
   before = unary 2 ops.SignExtend (size_of from) (Temp 0) ∷ unary 2 ops.Move (size_of to) (Temp 2) ∷ [];
   target = targets.Result (operand instr 1) (size_of to);
-  behind = unary 4 ops.SignExtend (size_of from) (Temp 0) ∷ overflow_by (size_of to);
+  behind = behind;
   exit = Next;
 }
+
+-- CVT
+abbrev pub convert_plan : (from to : Width) → Instr → Plan
+convert_plan from to instr = convert_plan_with (behind_conversion (is_extension from to) (size_of from) (size_of to)) from to instr
 
 -- MOVA
 abbrev pub move_address_plan : Size → Instr → Plan

@@ -3,7 +3,7 @@
 ghost use Rattle.std.specs.Prelude.{◌≡◌, ◌∷◌, [], IfOk};
 ghost use Rattle.vax_meaning.specs.Evaluation.{operand};
 ghost use Rattle.micro_lower.specs.Plans.{program_of};
-ghost use Rattle.micro_lower.specs.Rows.{move_plan, move_zero_extended_plan, clear_plan, ones, move_complemented_plan, move_negated_plan, convert_plan, move_address_plan};
+ghost use Rattle.micro_lower.specs.Rows.{move_plan, move_zero_extended_plan, clear_plan, ones, move_complemented_plan, move_negated_plan, is_extension, convert_plan, move_address_plan};
 
 use crate::micros::{binary, unary};
 use crate::plans::{Plan, Slot, Target, assemble};
@@ -137,6 +137,20 @@ pub(crate) fn move_negated(
     to_second(alloc, codes, instr, slots, size, &before, &behind)
 }
 
+/// A longer number holds what a shorter one does.
+fn is_extension(from: Width, to: Width) -> bool
+    ensures { result ≡ is_extension from to }
+{
+    match from {
+        Width::Byte => !matches!(to, Width::Byte),
+        Width::Word => matches!(to, Width::Long),
+        Width::Long => false,
+    }
+}
+
+/// V of a conversion into 3: an extension never overflows.
+const NO_OVERFLOW: Micro = unary!(3, MicroOp::Move, Size::Byte, Arg::Const(0));
+
 /// CVT.
 pub(crate) fn convert(
     alloc: Global,
@@ -153,14 +167,19 @@ pub(crate) fn convert(
         unary!(2, MicroOp::SignExtend, source, Arg::Temp(0)),
         unary!(2, MicroOp::Move, size, Arg::Temp(2)),
     ];
-    let behind = [
+    let overflow = [
         unary!(4, MicroOp::SignExtend, source, Arg::Temp(0)),
         extended,
         equal,
         overflows,
     ];
+    let behind: &[Micro] = if is_extension(from, to) {
+        &[NO_OVERFLOW]
+    } else {
+        &overflow
+    };
     let slots = [read(source, 0, 1), written(size)];
-    to_second(alloc, codes, instr, slots, size, &before, &behind)
+    to_second(alloc, codes, instr, slots, size, &before, behind)
 }
 
 /// MOVA.
