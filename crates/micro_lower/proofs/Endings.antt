@@ -1,10 +1,14 @@
 -- Behind the computations of a program: the result goes to its operand, the registers are committed and the codes set.
-use Rattle.std.proofs.Common.{◌≡◌, ℕ, ◌<◌, eqb, Bool, true, false, List, [], ◌∷◌, ◌++◌, length, refl, ◌∙◌, subst}
+use Rattle.std.proofs.Common.{◌≡◌, ℕ, ◌+◌, ◌%◌, ◌^◌, ◌<◌, eqb, get_or, Bool, true, false, List, [], ◌∷◌, ◌++◌, length, refl, sym, ap, ◌∙◌, subst}
 use Rattle.std.proofs.Common.{arith, inl, inr, lit<}
 use Rattle.std.proofs.lemmas.Bool.Decides.{eqb_tells}
-use Rattle.std.proofs.lemmas.List.{length-set}
+use Rattle.std.proofs.lemmas.List.{length-set, set-get_or}
+use Rattle.std.proofs.lemmas.Nat.{mod_below}
+use Rattle.vax_form.specs.declared.instr.Operand.TheVariants as operands
+use Rattle.operand_programs.proofs.Stepped.{register_stepped}
 use Rattle.std.specs.List.{list_all}
-use Rattle.vax_form.specs.State.{IsState, with_core}
+use Rattle.vax_form.specs.State.{IsState, register, with_core, with_register}
+use Rattle.std.proofs.Math.Nat.{mod-eq_of_lt}
 use Rattle.vax_form.specs.Tree.{Tree, tree_of, ends_with}
 use Rattle.vax_form.specs.declared.instr.Operand.{Operand}
 use Rattle.vax_form.specs.declared.instr.Size.{Size}
@@ -59,6 +63,11 @@ given_core (InRegister n) Byte value steps start = refl
 given_core (InRegister n) Word value steps start = refl
 given_core (InRegister n) Long value steps start = refl
 given_core (InRegister n) Quad value steps start = refl
+
+-- a register that takes what it has
+kept_register : (state : VaxState) → register 14 state < 2 ^ 32 → given (InRegister 14) Long (register 14 state) state ≡ state
+kept_register state fits =
+    ap (λ n. with_register 14 n state) (mod-eq_of_lt fits) ∙ ap (λ (r : List ℕ). with_core state r state.pc state.psw) (set-get_or state.r 14 0)
 
 -- the codes do not come from temporary 5
 pub still_ready : (nzv c : CodeSource) (psw : ℕ) (before after : Temps) (coded : Coded) → KeptBut5 before after → ReadyFor nzv c psw before coded → ReadyFor nzv c psw after coded
@@ -138,14 +147,26 @@ module _ (codes : CodeSources) (start : VaxState) (pages : Pages) (thread after 
           rw (← is) (replaces_operand operand size 3 2 codes start pages thread (behind ++ (finish_program operand size steps 2 ++ close)) (found_at start after) (with start temps) location (stepped steps start)
           (λ done state. end state) at (rw is finished))
 
-    -- a longword is pushed
-    pub pushed : (steps : List ℕ) (value : ℕ) (temps : Temps) → length steps ≡ length start.r → 14 < length steps → temps 2 ≡ value
-        → ((temps' : Temps) → Kept 3 3 temps temps' → Ready (effect behind (found_at start after) temps'))
-        → DoesSo codes start pages thread after (push_program steps 3 2 ++ (behind ++ (commit_program 0 (steps_behind_push steps) ++ close))) (with start temps)
-        (tree_of pages (push value) (stepped steps start) (λ done state. end state))
-    pushed steps value temps same room is ready =
-        rw (← is) (pushes steps 3 2 refl codes start pages thread (behind ++ (commit_program 0 (steps_behind_push steps) ++ close)) (found_at start after) (with start temps) (λ done state. end state) same room
-        (λ temps' kept. nowhere (steps_behind_push steps) temps' (steps_length_push steps ∙ same) (ready temps' kept)))
+  -- the stack pointer, which is in 3, is committed
+  comes_down : (steps : List ℕ) (temps : Temps) → length steps ≡ length start.r → temps 3 ≡ register 14 (stepped steps start) → Ready temps
+      → DoesSo codes start pages thread after (finish_program (operands.Register 14) Long steps 3 ++ close) (with start temps) (end (stepped steps start))
+  comes_down steps temps same top ready =
+      let state = given (InRegister 14) Long (temps 3) (stepped steps start) in
+      let value : temps 3 ≡ (register 14 start + get_or steps 14 0) % 2 ^ 32 = top ∙ register_stepped start steps 14 same in
+      let fits : temps 3 < 2 ^ 32 = subst (λ n. n < 2 ^ 32) (sym value) (mod_below _ (2 ^ 32) (lit< tt)) in
+      let is : state ≡ stepped steps start = ap (λ n. given (InRegister 14) Long n (stepped steps start)) top ∙ kept_register (stepped steps start) (subst (λ n. n < 2 ^ 32) top fits) in
+      subst (λ (s : VaxState). DoesSo codes start pages thread after (finish_program (operands.Register 14) Long steps 3 ++ close) (with start temps) (end s)) is
+      (finishes (operands.Register 14) Long steps 3 (lit< tt) tt codes start pages thread close (found_at start after) (with start temps) (InRegister 14) 0 (end state) same refl (register_below start ok) refl fits
+      (λ temps' kept. closes state temps temps' (given_core (InRegister 14) Long (temps 3) steps start) kept ready))
+
+  -- a longword is pushed
+  pub pushed : (steps : List ℕ) (value : ℕ) (temps : Temps) → length steps ≡ length start.r → 14 < length steps → temps 2 ≡ value
+      → ((temps' : Temps) → Kept 3 3 temps temps' → Ready temps')
+      → DoesSo codes start pages thread after (push_program steps 3 2 ++ (finish_program (operands.Register 14) Long (steps_behind_push steps) 3 ++ close)) (with start temps)
+      (tree_of pages (push value) (stepped steps start) (λ done state. end state))
+  pushed steps value temps same room is ready =
+      rw (← is) (pushes steps 3 2 refl codes start pages thread (finish_program (operands.Register 14) Long (steps_behind_push steps) 3 ++ close) (found_at start after) (with start temps) (λ done state. end state) same room
+      (λ temps' kept top. comes_down (steps_behind_push steps) temps' (steps_length_push steps ∙ same) top (ready temps' kept)))
 
 -- ---- codes that are set
 -- the exit goes there, and the temporaries hold what the codes come from

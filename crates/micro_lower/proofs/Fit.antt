@@ -1,5 +1,6 @@
 -- A program by a plan fits a block where its row does.
-use Rattle.std.proofs.Common.{◌≡◌, ℕ, Bool, true, List, [], ◌∷◌, ◌++◌, Option, refl, subst}
+use Rattle.std.proofs.Common.{◌≡◌, ℕ, Bool, true, List, [], ◌∷◌, ◌++◌, Option, refl, subst, lit<}
+use Rattle.vax_form.specs.declared.instr.Size.TheVariants.{Long}
 use Rattle.std.specs.Prelude.{slice_index_or}
 use Rattle.vax_form.specs.declared.instr.Base.{Base}
 use Rattle.vax_form.specs.declared.instr.Instr.{Instr}
@@ -33,7 +34,7 @@ abbrev pub ended : Target → Piece
 ended targets.Nowhere = Commits
 ended (targets.Result operand size) = Finishes operand size 2
 ended (targets.Replacement operand size) = Finishes operand size 2
-ended targets.Stack = Commits
+ended targets.Stack = Finishes (operands.Register 14) Long 3
 
 -- the pieces of a program
 abbrev pub pieces : Plan → Instr → List Piece
@@ -62,7 +63,7 @@ are_fit : (target : Target) (specifiers : List Specifier) (before behind : List 
 are_fit targets.Nowhere specifiers before behind fit named = (fit, (tt, (tt, (tt, (tt, tt)))))
 are_fit (targets.Result operand size) specifiers before behind fit named = (fit, (tt, (tt, (tt, (named, tt)))))
 are_fit (targets.Replacement operand size) specifiers before behind fit named = (fit, (tt, (tt, (tt, (named, tt)))))
-are_fit targets.Stack specifiers before behind fit named = (fit, (tt, (tt, (tt, (tt, tt)))))
+are_fit targets.Stack specifiers before behind fit named = (fit, (tt, (tt, (tt, (lit< tt, tt)))))
 
 pub program_fits : (codes : CodeSources) (plan : Plan) (instr : Instr) → AreFit (specifiers_from 0 plan.slots instr) → TargetIsNamed plan.target → plan_fits codes plan instr ≡ true
     → fits codes (program_of codes plan instr) ≡ true

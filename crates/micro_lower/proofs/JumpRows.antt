@@ -145,7 +145,7 @@ unfolding body sources_of value_from
 call_body instr state pages thread temps ok same within jumps =
     let plan = jump_to_subroutine_plan instr in
     let after = effect plan.before (found_at state instr.after) temps in
-    pushed (from Kept Kept) state pages thread instr.after ok _ (go_end pages (temps 0 % 2 ^ 32)) _ (closes_kept state pages thread instr.after plan.exit (temps 0 % 2 ^ 32)) [] refl (steps_of plan.slots instr) instr.after after same
+    pushed (from Kept Kept) state pages thread instr.after ok _ (go_end pages (temps 0 % 2 ^ 32)) _ (closes_kept state pages thread instr.after plan.exit (temps 0 % 2 ^ 32)) (steps_of plan.slots instr) instr.after after same
     (room state (steps_of plan.slots instr) ok same) (mod-eq_of_lt within)
     (λ temps' kept. record { low = jumps.0; goes = still_jumps (operand instr 0) (found_at state instr.after) after temps' (temps 0 % 2 ^ 32) (kept 0 refl refl refl) (still_jumps (operand instr 0) (found_at state instr.after) temps after (temps 0 % 2 ^ 32) refl jumps.1) })
 

@@ -151,4 +151,4 @@ pub end_quiet : (to : Target) (steps : List ℕ) → IsQuiet (end_program to ste
 end_quiet targets.Nowhere steps = commits_quiet 0 steps
 end_quiet (targets.Result operand size) steps = finish_quiet operand size steps 2
 end_quiet (targets.Replacement operand size) steps = finish_quiet operand size steps 2
-end_quiet targets.Stack steps = commits_quiet 0 steps
+end_quiet targets.Stack steps = finish_quiet (Register 14) Long steps 3

@@ -43,8 +43,8 @@ use Rattle.micro_lower.specs.Rows.{compare_plan, test_plan, bit_test_plan, push_
 use Rattle.micro_lower.specs.Plans.{Plan}
 use Rattle.micro_lower.proofs.Endings.{nowhere, pushed}
 use Rattle.micro_lower.proofs.Planned.{only_read, only_address, read_twice}
-use Rattle.operand_programs.specs.Results.{push_program, steps_behind_push}
-use Rattle.operand_programs.specs.Specifiers.{commit_program}
+use Rattle.operand_programs.specs.Results.{finish_program, push_program, steps_behind_push}
+use Rattle.vax_form.specs.declared.instr.Operand.TheVariants as operands
 use Rattle.micro_lower.proofs.Overflow.{as_quad}
 
 -- ---- tests
@@ -107,12 +107,12 @@ room state steps ok same = let r = ok.registers in omega (arith, same, r)
 module _ (instr : Instr) (plan : Plan) (state : VaxState) (pages : Pages) (thread : ℕ) (ok : IsState state) (steps : List ℕ) (same : length steps ≡ length state.r)
     (value : ℕ) (temps : Temps) (fits : value < 2 ^ 32) (two : temps 2 ≡ value) where
   pushes_value : DoesSo (from (Result Long) Kept) state pages thread instr.after
-      (push_program steps 3 2 ++ ([] ++ (commit_program 0 (steps_behind_push steps) ++ (codes_program (from (Result Long) Kept) ++ Leave Next ∷ [])))) (with state temps)
+      (push_program steps 3 2 ++ (finish_program (operands.Register 14) Long (steps_behind_push steps) 3 ++ (codes_program (from (Result Long) Kept) ++ Leave Next ∷ []))) (with state temps)
       (tree_of pages (push value) (stepped steps state) (λ done s. value_end pages Long value instr.after s))
   pushes_value =
       pushed (from (Result Long) Kept) state pages thread instr.after ok _ (value_end pages Long value instr.after) _
       (closes_coded (Result Long) Kept state pages thread instr.after (value_coded state Long value) Next instr.after (value_end pages Long value instr.after) (value_ends pages state Long value instr.after))
-      [] refl steps value temps same (room state steps ok same) two
+      steps value temps same (room state steps ok same) two
       (λ temps' kept. record { low = tt; goes = refl; ready = result_ready Long state value temps' fits (kept 2 refl refl refl ∙ two) })
 
 pub push_long_all : (instr : Instr) → AllDo operations.PushLong instr push_long_plan

@@ -3,7 +3,9 @@
 use Rattle.std.specs.Prelude.{ℕ, ◌+◌, List, [], ◌∷◌, ◌++◌, Option, Some, None}
 use Rattle.vax_form.specs.declared.instr.Instr.{Instr}
 use Rattle.vax_form.specs.declared.instr.Size.{Size}
-use Rattle.vax_form.specs.declared.instr.Size.TheVariants.{Byte, Quad}
+use Rattle.vax_form.specs.declared.instr.Operand.TheVariants as operands
+use Rattle.vax_form.specs.declared.instr.Size.TheVariants.{Byte, Long, Quad}
+use Rattle.vax_form.specs.State.{SP}
 use Rattle.vax_meaning.specs.Evaluation.{operand}
 use Rattle.micro_ops.specs.declared.codes.CodeSource.{CodeSource}
 use Rattle.micro_ops.specs.declared.codes.CodeSource.TheVariants as sources
@@ -64,11 +66,12 @@ abbrev pub steps_behind_target : Target → (steps : List ℕ) → List ℕ
 steps_behind_target Stack steps = steps_behind_push steps
 steps_behind_target target steps = steps
 
--- what was added, and a result in registers, is committed
+-- what was added, and a result in registers, is committed; behind a push the stack pointer is the address in 3
 abbrev pub end_program : Target → (steps : List ℕ) → List Micro
 end_program (Result operand size) steps = finish_program operand size steps 2
 end_program (Replacement operand size) steps = finish_program operand size steps 2
-end_program target steps = commit_program 0 steps
+end_program Stack steps = finish_program (operands.Register SP) Long steps 3
+end_program Nowhere steps = commit_program 0 steps
 
 -- ---- condition codes
 -- a computation of one argument

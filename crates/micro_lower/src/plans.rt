@@ -109,12 +109,19 @@ fn put_target(
     }
 }
 
-/// Commits what the specifiers added, and a result in registers.
+/// The register of the stack pointer.
+const STACK_POINTER: u8 = 14;
+
+/// Commits what the specifiers added, and a result in registers. Behind a push the stack pointer is its address.
 fn put_end(program: &mut Vec<Micro>, target: Target, steps: &Steps) -> Result<(), WantOfMemory>
     ensures { OnOk result (program.new.items ≡ program.old.items ++ end_program target steps.now) }
 {
     match target {
-        Target::Nowhere | Target::Stack => put_steps(program, steps),
+        Target::Nowhere => put_steps(program, steps),
+        Target::Stack => {
+            let stack = Operand::Register(STACK_POINTER);
+            put_finish(program, stack, Size::Long, steps, PLACE)
+        }
         Target::Result { operand, size } | Target::Replacement { operand, size } => {
             put_finish(program, operand, size, steps, RESULT)
         }

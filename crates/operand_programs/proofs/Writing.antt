@@ -1,7 +1,7 @@
 -- The programs of operands that are located, modified, stored and pushed.
 use Rattle.std.proofs.Common.{◌≡◌, ℕ, ◌+◌, ◌*◌, ◌%◌, ◌^◌, ◌<◌, eqb, false, List, ◌∷◌, ◌++◌, length, get_or, refl, sym, ap, ◌∙◌, subst, lit<, Some}
 use Rattle.std.proofs.Math.Nat.{mod-eq_of_lt}
-use Rattle.std.proofs.lemmas.List.{get_or-set_same}
+use Rattle.std.proofs.lemmas.List.{length-set, get_or-set_same}
 use Rattle.vax_form.specs.Size.{bytes_of}
 use Rattle.vax_form.specs.State.{register, with_register}
 use Rattle.vax_form.specs.Tree.{Tree, tree_of}
@@ -96,6 +96,6 @@ pushes steps place from apart sources start pages thread program found standing 
     let step = sum_course place (Some 14) (get_or (steps_behind_push steps) 14 0) (store_program Long place from ++ program) found standing in
     let behind : Agrees P end (course_of program found (with_value place top standing)) (rest tt (with_register 14 top (stepped steps found.state))) =
     subst (λ (s : VaxState). Agrees P end (course_of program found (with_value place top standing)) (rest tt s)) (sym state)
-    (goes (with_temp place top standing.temps) (λ temp a b c. rw a refl)) in
+    (goes (with_temp place top standing.temps) (λ temp a b c. rw a refl) (rw (eqb_same place) (sym (register_stepped found.state (steps_behind_push steps) 14 (length-set steps 14 _ ∙ same) ∙ below_stack found.state steps same some)))) in
     rw (step, below_stack found.state steps same some, eqb_same place, apart)
     (refl, refl, refl, writes_agree P end pages top 4 (standing.temps from) (stepped steps found.state) (course_of program found (with_value place top standing)) (λ _ after. rest tt (with_register 14 top after)) (lit< tt) behind)

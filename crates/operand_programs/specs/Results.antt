@@ -3,7 +3,7 @@
 use Rattle.std.specs.Prelude.{◌≡◌, ℕ, ◌+◌, ◌-◌, ◌^◌, ◌<◌, ◌==◌, false, Some, List, [], ◌∷◌, ◌++◌, length, min, slice_index, slice_set, if◌then◌else◌}
 use Rattle.vax_form.specs.Size.{bytes_of}
 use Rattle.vax_form.specs.Script.{Script}
-use Rattle.vax_form.specs.State.{with_core, SP}
+use Rattle.vax_form.specs.State.{register, with_core, SP}
 use Rattle.vax_form.specs.Tree.{Tree, tree_of}
 use Rattle.vax_form.specs.declared.instr.Operand.{Operand}
 use Rattle.vax_form.specs.declared.instr.Operand.TheVariants as operands
@@ -138,12 +138,12 @@ steps_behind_push steps = with_step SP (2 ^ 32 - 4) steps
 abbrev pub push_program : (steps : List ℕ) → (place from : ℕ) → List Micro
 push_program steps place from = sum_into place (Some SP) (slice_index (steps_behind_push steps) SP) ∷ store_program Long place from
 
--- the piece pushes the temporary's value as the instruction does
+-- the piece pushes the temporary's value as the instruction does, and leaves the stack pointer in the place
 abbrev pub Pushes : (steps : List ℕ) → (place from : ℕ) → List Micro → Type 0
 Pushes steps place from piece = (sources : CodeSources) (start : VaxState) (pages : Pages) (thread : ℕ) (program : List Micro) (found : Found) (standing : Standing)
     (rest : Unit {0} → VaxState → Tree)
     → length steps ≡ length found.state.r → SP < length steps
-    → ((temps : Temps) → Kept place place standing.temps temps
+    → ((temps : Temps) → Kept place place standing.temps temps → temps place ≡ register SP (stepped (steps_behind_push steps) found.state)
     → Agrees (CodesComeFrom sources start) (leaving pages thread) (course_of program found (with_temps temps standing)) (rest tt (stepped (steps_behind_push steps) found.state)))
     → Agrees (CodesComeFrom sources start) (leaving pages thread) (course_of (piece ++ program) found standing)
     (tree_of pages (push (standing.temps from)) (stepped steps found.state) rest)
