@@ -44,7 +44,7 @@ use Rattle.block_law.specs.Tidy.{may_fault, register_written, writes_register}
 use Rattle.program_codegen.specs.declared.homes.Homes.{Homes}
 use Rattle.program_codegen.specs.declared.lines.Line.{Line}
 use Rattle.program_codegen.specs.declared.points.Site.{Site}
-use Rattle.program_codegen.specs.Homes.{AreHomes, IsHome, are_short_rules, code_by, commit_stays, commit_words, compared, comparison, copied, direct_code, direct_lines, direct_step, end_lines, exit_behind, exit_stays, extended_first, extended_second, home_by, home_of, is_const, is_copying, is_home_constant, is_long_constant, is_shared, extending, long_operation, made, may_end, moved_words, new_home, placed, standing_in, with_home, end_words, is_short_constant, step_by, waiting_words, choice_lines, next_exit, tested_at, tested_exit}
+use Rattle.program_codegen.specs.Homes.{AreHomes, IsHome, are_short_rules, code_by, commit_stays, commit_words, compared, comparison, copied, direct_code, direct_lines, direct_step, end_lines, exit_behind, exit_stays, extended_first, extended_second, home_by, home_of, is_const, is_copying, is_home_constant, is_long_constant, is_shared, extending, long_operation, made, may_end, moved_words, new_home, placed, standing_in, with_home, end_words, step_by, waiting_words, choice_lines, next_exit, tested_at, tested_exit}
 use Rattle.program_codegen.specs.Programs.{AllHaveWords, IsExit}
 use Rattle.program_codegen.specs.Words.{departing, exit_lines, plain, trap_lines, words_of}
 use Rattle.program_codegen.proofs.Coded.{fine_operates}

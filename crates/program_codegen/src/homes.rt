@@ -2,7 +2,7 @@
 ghost use Rattle.std.specs.Prelude.{◌≡◌, ◌++◌, ◌≤◌, OnOk, IfOk, false, map};
 ghost use Rattle.compute_sequences.specs.Registers.{IsArgument, IsTarget};
 ghost use Rattle.micro_ops.specs.Uses.{is_unary};
-ghost use Rattle.program_codegen.specs.Homes.{AreHomes, home_of, with_home, home_at, stands_in, is_shared, argument_in, standing_in, placed, extended_register, extended_second, extended_first, long_operation, comparison, joined_word, one_word, is_copying, copied, is_logical, made_size, made, compared, is_home_constant, is_long_constant, extending, new_home, direct_code, is_direct, is_short_constant, waiting_words, direct_by};
+ghost use Rattle.program_codegen.specs.Homes.{AreHomes, home_of, with_home, home_at, stands_in, is_shared, argument_in, standing_in, placed, extended_register, extended_second, extended_first, long_operation, comparison, joined_word, one_word, is_copying, copied, is_logical, made_size, made, compared, is_home_constant, is_long_constant, extending, new_home, direct_code, is_direct, waiting_words, direct_by};
 ghost use Rattle.program_codegen.specs.Words.{holder, plain};
 
 use crate::lines::{Line, holder, push_words};
