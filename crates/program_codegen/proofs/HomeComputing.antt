@@ -8,7 +8,6 @@ use Rattle.std.proofs.lemmas.Bool.{and_parts, ltb-true, not-true}
 use Rattle.std.proofs.Math.Nat.{mod-eq_of_lt}
 use Rattle.std.proofs.lemmas.Nat.{and_le_l, and_mod}
 use Rattle.std.proofs.lemmas.Option.{same_Some}
-use Rattle.vt_words.specs.Quad.{sign_extended}
 use Rattle.vt_words.proofs.Longwords.{extended_again, extended_fits, extended_low}
 use Rattle.vax_form.specs.Tree.{Tree}
 use Rattle.vax_form.specs.declared.instr.Size.{Size}
@@ -46,7 +45,7 @@ use Rattle.block_law.proofs.Rules.{Always, operates, roomy}
 use Rattle.program_codegen.specs.declared.homes.Homes.{Homes}
 use Rattle.program_codegen.specs.declared.lines.Line.{Line}
 use Rattle.program_codegen.specs.declared.points.Site.{Site}
-use Rattle.program_codegen.specs.Homes.{AreHomes, IsHome, code_by, compared, comparison, copied, direct_code, extended_first, extended_register, extended_second, home_by, home_of, is_copying, is_direct, is_const, is_home_constant, is_long_constant, is_shared, extending, joined_word, long_operation, made, made_size, new_home, one_word, placed, stands_in, with_home}
+use Rattle.program_codegen.specs.Homes.{AreHomes, IsHome, code_by, compared, comparison, copied, direct_code, extended_first, extended_register, extended_second, home_by, home_of, is_copying, is_direct, is_shared, is_short_constant, joined_word, long_operation, made, made_size, new_home, one_word, placed, stands_in, with_home}
 use Rattle.program_codegen.specs.Programs.{rule_of}
 use Rattle.program_codegen.specs.Words.{holder, plain}
 use Rattle.program_codegen.proofs.Computing.{argument_is, computation_runs, computed_holds, kept_apart, temp_apart, zero_apart}
@@ -191,7 +190,7 @@ no_quad true q either none = absurd (cc (sym either ∙ ap is_some none))
 pub compared_word : (homes : Homes) (to : ℕ) (op : MicroOp) (size : Size) (a b : Arg) (word : AlphaInstr) → compared homes to op size a b ≡ Some word → (size ≡ Long) × Joined homes (comparison op) a b (21 + to) word
 compared_word homes to op size a b word e = joined_long homes (comparison op) size a b (21 + to) word e
 
-pub copying : (op : MicroOp) (size : Size) → is_copying op size ≡ true → (is_moved op ≡ true) × (size ≡ Long)
+copying : (op : MicroOp) (size : Size) → is_copying op size ≡ true → (is_moved op ≡ true) × (size ≡ Long)
 copying op Long e = (e, refl)
 copying op Byte e = absurd (cc e)
 copying op Word e = absurd (cc e)
@@ -202,10 +201,6 @@ unfolding value_from
 moved_value Move x y held e = refl
 moved_value ZeroExtend x y held e = refl
 moved_value op x y held e = absurd (cc e)
-
-extended_value : (x y held : ℕ) → computed SignExtend Long x y held ≡ sign_extended (x % 2 ^ 32) 32
-unfolding value_from
-extended_value x y held = refl
 
 picked : (A : Type 0) (c : Bool) (o : Option A) (r : A) → (if c then o else None) ≡ Some r → (c ≡ true) × (o ≡ Some r)
 picked A true o r e = (refl, e)
@@ -363,7 +358,7 @@ module _ (p : Placement) (site : Site) (known : Known) (homes : Homes) (standing
       let low_value : computed op size (value a) (value b) (standing.temps to) ≡ regs r % 2 ^ 32 =
       ap (λ size. computed op size (value a) (value b) (standing.temps to)) c.1 ∙ (moved_value op (value a) (value b) (standing.temps to) c.0 ∙ v.1) in
       subst (λ o. Direct p site (behind_write to (holding_of (leaves_longword (Compute to op size a b))) known) (with_home to o homes) (with_value to (computed op size (value a) (value b) (standing.temps to)) standing) regs)
-      (sym (ap (λ o. home_by o (made homes to op size a b) (is_home_constant to op size a) to) e))
+      (sym (ap (λ o. home_by o (made homes to op size a b) (is_short_constant to op size a) to) e))
       (written p site known homes (Some r) (holding_of (leaves_longword (Compute to op size a b))) to (computed op size (value a) (value b) (standing.temps to)) standing regs regs
       (λ n kept. refl) refl (λ temp lt other. refl)
       (λ none lt. let some = home_self to (Some r) homes y.0 in absurd (cc (sym none ∙ some)))
@@ -395,9 +390,9 @@ module _ (p : Placement) (site : Site) (known : Known) (homes : Homes) (standing
           same_made op size (value a) (value b) (standing.temps to) longword (first_below a x is ok is_x) (second_below b s is' ok' is_s)
           ∙ (ap (λ n. value_from op Long n (value b % 2 ^ 32) (standing.temps to)) v.0
           ∙ (ap (λ n. value_from op Long (regs x % 2 ^ 32) n (standing.temps to)) w.0 ∙ sym g.value)) in
-          let home : home_by (copied homes to op size a) (made homes to op size a b) (is_home_constant to op size a) to ≡ Some 23 =
-          ap (λ o. home_by o (made homes to op size a b) (is_home_constant to op size a) to) none
-          ∙ (ap (λ o. home_by None o (is_home_constant to op size a) to) e ∙ ap (λ n. Some (21 + n)) two) in
+          let home : home_by (copied homes to op size a) (made homes to op size a b) (is_short_constant to op size a) to ≡ Some 23 =
+          ap (λ o. home_by o (made homes to op size a b) (is_short_constant to op size a) to) none
+          ∙ (ap (λ o. home_by None o (is_short_constant to op size a) to) e ∙ ap (λ n. Some (21 + n)) two) in
           subst (λ o. Direct p site (behind_write to (holding_of (leaves_longword (Compute to op size a b))) known) (with_home to o homes) (with_value to (computed op size (value a) (value b) (standing.temps to)) standing) (put regs 23 y))
           (sym home)
           (written p site known homes (Some 23) (holding_of (leaves_longword (Compute to op size a b))) to (computed op size (value a) (value b) (standing.temps to)) standing regs (put regs 23 y)
@@ -450,12 +445,12 @@ module _ (p : Placement) (site : Site) (known : Known) (homes : Homes) (standing
           ∙ (ap (λ n. value_from op Long (value a % 2 ^ 32) n (standing.temps to)) (sym w.0)
           ∙ ap (λ size. computed op size (value a) (value b) (standing.temps to)) (sym longword))) in
           let unmoved : is_copying op Long ≡ false = never_moved op o is_o in
-          let plain_one : is_home_constant to op size a ≡ false =
-          ap (λ size. is_home_constant to op size a) longword
-          ∙ (ap (λ c. nat_lt to 3 && c && is_const a) unmoved ∙ constant (nat_lt to 3) (is_const a)) in
-          let home : home_by (copied homes to op size a) (made homes to op size a b) (is_home_constant to op size a) to ≡ None =
-          ap (λ o. home_by o (made homes to op size a b) (is_home_constant to op size a) to) none
-          ∙ (ap (λ o. home_by None o (is_home_constant to op size a) to) none' ∙ ap (λ c. home_by None None c to) plain_one) in
+          let plain_one : is_short_constant to op size a ≡ false =
+          ap (λ size. is_short_constant to op size a) longword
+          ∙ (ap (λ c. nat_lt to 3 && c && is_constant (is_short Long) a) unmoved ∙ constant (nat_lt to 3) (is_constant (is_short Long) a)) in
+          let home : home_by (copied homes to op size a) (made homes to op size a b) (is_short_constant to op size a) to ≡ None =
+          ap (λ o. home_by o (made homes to op size a b) (is_short_constant to op size a) to) none
+          ∙ (ap (λ o. home_by None o (is_short_constant to op size a) to) none' ∙ ap (λ c. home_by None None c to) plain_one) in
           subst (λ o. Direct p site (behind_write to (holding_of (leaves_longword (Compute to op size a b))) known) (with_home to o homes) (with_value to (computed op size (value a) (value b) (standing.temps to)) standing) (put regs (21 + to) y))
           (sym home)
           (written p site known homes None (holding_of (leaves_longword (Compute to op size a b))) to (computed op size (value a) (value b) (standing.temps to)) standing regs (put regs (21 + to) y)
@@ -479,12 +474,12 @@ module _ (p : Placement) (site : Site) (known : Known) (homes : Homes) (standing
 
   pub computes_words : (to : ℕ) (op : MicroOp) (size : Size) (a b : Arg) (g : Regs) → IsTarget (holder to) → IsArgument a → argument_fits known a ≡ true → Ready a
       → (is_unary op ≡ false → IsArgument b × (argument_fits known b ≡ true) × Ready b) → is_quad size ≡ false → is_select op ≡ false → is_shared homes to ≡ false
-      → copied homes to op size a ≡ None → made homes to op size a b ≡ None → is_long_constant to op size a ≡ false
+      → copied homes to op size a ≡ None → made homes to op size a b ≡ None
       → (done : Unit {0}) → Leaves (IsComputed op size (placed homes a) (placed homes b) (holder to) regs) (holder to) regs done g → After to op size a b g
-  computes_words to op size a b g target is ok ready second narrow unselected alone none none' short done l =
+  computes_words to op size a b g target is ok ready second narrow unselected alone none none' done l =
       subst (λ o. Direct p site (behind_write to (holding_of (leaves_longword (Compute to op size a b))) known) (with_home to o homes) (with_value to (computed op size (value a) (value b) (standing.temps to)) standing) g)
-      (sym (ap (λ o. home_by o (made homes to op size a b) (is_home_constant to op size a) to) none ∙ ap (λ o. home_by None o (is_home_constant to op size a) to) none'))
-      (by (is_home_constant to op size a) refl)
+      (sym (ap (λ o. home_by o (made homes to op size a b) (is_short_constant to op size a) to) none ∙ ap (λ o. home_by None o (is_short_constant to op size a) to) none'))
+      (by (is_short_constant to op size a) refl)
     where
       low_to : 21 ≤ 21 + to
       low_to = target.low
@@ -513,22 +508,17 @@ module _ (p : Placement) (site : Site) (known : Known) (homes : Homes) (standing
           home_fits there
           (λ temp r other home. l.only r (scratch r (scratch_apart homes d.are temp r home) (not_shared homes to alone temp r other home))) d
 
-      by : (c : Bool) → is_home_constant to op size a ≡ c → Direct p site (behind_write to (holding_of (leaves_longword (Compute to op size a b))) known) (with_home to (if c then Some (21 + to) else None) homes) (with_value to (computed op size (value a) (value b) (standing.temps to)) standing) g
+      by : (c : Bool) → is_short_constant to op size a ≡ c → Direct p site (behind_write to (holding_of (leaves_longword (Compute to op size a b))) known) (with_home to (if c then Some (21 + to) else None) homes) (with_value to (computed op size (value a) (value b) (standing.temps to)) standing) g
       by false e = homed None tt (λ r same. absurd (cc same))
       by true e =
-          let x = all_three (nat_lt to 3) (is_copying op size) (is_const a) e in
-          let small : (computed op size (value a) (value b) (standing.temps to)) < 2 ^ 15 = constant_is x.1 (short_is (is_home_constant to op size a) (is_constant (is_short Long) a) e short) in
+          let x = all_three (nat_lt to 3) (is_copying op size) (is_constant (is_short Long) a) e in
+          let small : (computed op size (value a) (value b) (standing.temps to)) < 2 ^ 15 = constant_is x.1 x.2 in
           let few = ltb-true to 3 x.0 in
           let fits : (computed op size (value a) (value b) (standing.temps to)) % 2 ^ 32 ≡ (computed op size (value a) (value b) (standing.temps to)) = mod-eq_of_lt (omega arith) in
           homed (Some (21 + to)) (omega arith, λ not_so. omega arith)
           (λ r same. subst (λ n. ((computed op size (value a) (value b) (standing.temps to)) ≡ g n % 2 ^ 32) × IsExtended (g n)) (same_Some (21 + to) r same)
           (sym fits ∙ ap (λ n. n % 2 ^ 32) (sym is_value), subst IsExtended (sym is_value) (extended_small (computed op size (value a) (value b) (standing.temps to)) (omega arith))))
         where
-          short_is : (c s : Bool) → c ≡ true → (c && not s) ≡ false → s ≡ true
-          short_is true true e f = refl
-          short_is true false e f = absurd (cc f)
-          short_is false s e f = absurd (cc e)
-
           constant_is : is_copying op size ≡ true → is_constant (is_short Long) a ≡ true → (computed op size (value a) (value b) (standing.temps to)) < 2 ^ 15
           constant_is moves short = of a refl short
             where
@@ -538,54 +528,6 @@ module _ (p : Placement) (site : Site) (known : Known) (homes : Homes) (standing
               of (arguments.Temp temp) same short = absurd (cc short)
               of (arguments.Register number) same short = absurd (cc short)
               of (arguments.Flag flag) same short = absurd (cc short)
-
-  -- a constant that is extended
-  extends_words : (to : ℕ) (op : MicroOp) (size : Size) (a b : Arg) (g : Regs) → IsTarget (holder to) → is_shared homes to ≡ false
-      → copied homes to op size a ≡ None → made homes to op size a b ≡ None → is_long_constant to op size a ≡ true
-      → (done : Unit {0}) → Leaves (IsComputed SignExtend size (placed homes a) (placed homes b) (holder to) regs) (holder to) regs done g → After to op size a b g
-  extends_words to op size a b g target alone none none' long done l =
-      let x = and_parts (is_home_constant to op size a) (not (is_constant (is_short Long) a)) long in
-      let y = all_three (nat_lt to 3) (is_copying op size) (is_const a) x.0 in
-      let few = ltb-true to 3 y.0 in
-      let home : home_by (copied homes to op size a) (made homes to op size a b) (is_home_constant to op size a) to ≡ Some (21 + to) =
-      ap (λ o. home_by o (made homes to op size a b) (is_home_constant to op size a) to) none
-      ∙ (ap (λ o. home_by None o (is_home_constant to op size a) to) none' ∙ ap (λ c. home_by None None c to) x.0) in
-      subst (λ o. Direct p site (behind_write to (holding_of (leaves_longword (Compute to op size a b))) known) (with_home to o homes) (with_value to (computed op size (value a) (value b) (standing.temps to)) standing) g)
-      (sym home)
-      (written p site known homes (Some (21 + to)) (holding_of (leaves_longword (Compute to op size a b))) to (computed op size (value a) (value b) (standing.temps to)) standing regs g
-      (λ n kept. l.only n (kept_apart (21 + to) n low_to high_to kept)) (l.only 31 (zero_apart (21 + to) low_to high_to))
-      (λ temp lt other. l.only (21 + temp) (temp_apart to temp lt other))
-      (λ free lt. let some = home_self to (Some (21 + to)) homes y.0 in absurd (cc (sym free ∙ some)))
-      (omega arith, λ not_so. omega arith)
-      (λ r same. subst (λ n. (computed op size (value a) (value b) (standing.temps to) ≡ g n % 2 ^ 32) × IsExtended (g n)) (same_Some (21 + to) r same) (of a refl (copying op size y.1) y.2))
-      (λ temp r other home. l.only r (scratch r (scratch_apart homes d.are temp r home) (not_shared homes to alone temp r other home))) d)
-    where
-      low_to : 21 ≤ 21 + to
-      low_to = target.low
-
-      high_to : 21 + to ≤ 26
-      high_to = target.high
-
-      scratch : (r : ℕ) → (r == 27) ≡ false → (r == (21 + to)) ≡ false → may_change (21 + to) r ≡ false
-      scratch r e f = rw (f, e) refl
-
-      twice : (n : ℕ) → n % 2 ^ 32 % 2 ^ 32 ≡ n % 2 ^ 32
-      twice n = omega arith
-
-      of : (a' : Arg) → a ≡ a' → (is_moved op ≡ true) × (size ≡ Long) → is_const a' ≡ true → (computed op size (value a) (value b) (standing.temps to) ≡ g (21 + to) % 2 ^ 32) × IsExtended (g (21 + to))
-      of (arguments.Const number) same c e =
-          let own : g (21 + to) ≡ sign_extended (number % 2 ^ 32) 32 =
-          l.holds
-          ∙ (ap (λ (a : Arg). computed SignExtend size (value_at regs (placed homes a)) (value_at regs (placed homes b)) (regs (21 + to))) same
-          ∙ (ap (λ size. computed SignExtend size number (value_at regs (placed homes b)) (regs (21 + to))) c.1 ∙ extended_value number (value_at regs (placed homes b)) (regs (21 + to)))) in
-          let moves : computed op size (value a) (value b) (standing.temps to) ≡ number % 2 ^ 32 =
-          ap (λ (a : Arg). computed op size (value a) (value b) (standing.temps to)) same
-          ∙ (ap (λ size. computed op size number (value b) (standing.temps to)) c.1 ∙ moved_value op number (value b) (standing.temps to) c.0) in
-          let low_is : g (21 + to) % 2 ^ 32 ≡ number % 2 ^ 32 = ap (λ n. n % 2 ^ 32) own ∙ (extended_low (number % 2 ^ 32) ∙ twice number) in
-          (moves ∙ sym low_is, subst IsExtended (sym own) (extended_again (number % 2 ^ 32)))
-      of (arguments.Temp temp) same c e = absurd (cc e)
-      of (arguments.Register number) same c e = absurd (cc e)
-      of (arguments.Flag flag) same c e = absurd (cc e)
 
   binary : (op : MicroOp) (o : OperateOp) → long_operation op ≡ Some o → is_unary op ≡ false
   binary Move o e = absurd (cc e)
@@ -665,7 +607,7 @@ module _ (p : Placement) (site : Site) (known : Known) (homes : Homes) (standing
       let y = all_three (not (is_quad size) || is_some (made homes to op size a b)) (not (is_select op)) (not (is_shared homes to)) direct in
       let second : is_unary op ≡ false → IsArgument b × (argument_fits known b ≡ true) × Ready b = λ two. (b_is two, right (is_unary op) (argument_fits known b) two x.2, λ flag lt e. ready flag lt (takes_second flag two e)) in
       by (λ flag lt e. ready flag lt (takes_first flag e)) second x.1 y.0 (not-true (is_select op) y.1) (not-true (is_shared homes to) y.2)
-      (copied homes to op size a) refl (made homes to op size a b) refl (compared homes to op size a b) refl (is_long_constant to op size a) refl w behind
+      (copied homes to op size a) refl (made homes to op size a b) refl (compared homes to op size a b) refl w behind
     where
       takes_first : (flag : ℕ) → is_flag flag a ≡ true → takes (is_flag flag) op a b ≡ true
       takes_first flag e = takes_by (is_flag flag a) (is_flag flag b) (is_unary op) e
@@ -674,15 +616,15 @@ module _ (p : Placement) (site : Site) (known : Known) (homes : Homes) (standing
       takes_second flag u e = takes_other (is_flag flag a) (is_flag flag b) (is_unary op) u e
 
       by : Ready a → (is_unary op ≡ false → IsArgument b × (argument_fits known b ≡ true) × Ready b) → argument_fits known a ≡ true → (not (is_quad size) || is_some (made homes to op size a b)) ≡ true → is_select op ≡ false → is_shared homes to ≡ false
-          → (o : Option ℕ) → copied homes to op size a ≡ o → (q : Option AlphaInstr) → made homes to op size a b ≡ q → (u : Option AlphaInstr) → compared homes to op size a b ≡ u → (l : Bool) → is_long_constant to op size a ≡ l
-          → Within p site.behind pc (map plain (code_by o q u (compute_code (extending l op) size (placed homes a) (placed homes b) (holder to))) ++ rest)
-          → ((g : Regs) → After to op size a b g → Always p None need (at_place g (pc + length (code_by o q u (compute_code (extending l op) size (placed homes a) (placed homes b) (holder to))))) t)
-          → Always p None (length (code_by o q u (compute_code (extending l op) size (placed homes a) (placed homes b) (holder to))) + need) (at_place regs pc) t
-      by ready_a second a_fits narrow unselected alone (Some r) e q f u h l k w behind =
+          → (o : Option ℕ) → copied homes to op size a ≡ o → (q : Option AlphaInstr) → made homes to op size a b ≡ q → (u : Option AlphaInstr) → compared homes to op size a b ≡ u
+          → Within p site.behind pc (map plain (code_by o q u (compute_code op size (placed homes a) (placed homes b) (holder to))) ++ rest)
+          → ((g : Regs) → After to op size a b g → Always p None need (at_place g (pc + length (code_by o q u (compute_code op size (placed homes a) (placed homes b) (holder to))))) t)
+          → Always p None (length (code_by o q u (compute_code op size (placed homes a) (placed homes b) (holder to))) + need) (at_place regs pc) t
+      by ready_a second a_fits narrow unselected alone (Some r) e q f u h w behind =
           let here : pc + 0 ≡ pc = omega arith in
           roomy p None need (0 + need) (at_place regs pc) t (omega arith)
           (subst (λ n. Always p None need (at_place regs n) t) here (behind regs (copies to op size a b r a_is a_fits e)))
-      by ready_a second a_fits narrow unselected alone None e (Some word) f u h l k w behind =
+      by ready_a second a_fits narrow unselected alone None e (Some word) f u h w behind =
           let m = made_word homes to op size a b word f in
           let two = binary op m.2.operation m.2.is_operation in
           let s = second two in
@@ -692,7 +634,7 @@ module _ (p : Placement) (site : Site) (known : Known) (homes : Homes) (standing
           (subst (λ (i : AlphaInstr). list_all is_operate (i ∷ []) ≡ true) (sym m.2.is) refl) w.low (omega arith)
           (λ n lt le. is_inside p site.behind pc n (map plain (word ∷ []) ++ rest) w lt (omega arith))
           (behind (effect word regs) (makes to op size a b word a_is a_fits s.0 s.1 e f alone))
-      by ready_a second a_fits narrow unselected alone None e None f (Some word) h l k w behind =
+      by ready_a second a_fits narrow unselected alone None e None f (Some word) h w behind =
           let m = compared_word homes to op size a b word h in
           let two = two_compared op m.1.operation m.1.is_operation in
           let s = second two in
@@ -702,7 +644,7 @@ module _ (p : Placement) (site : Site) (known : Known) (homes : Homes) (standing
           (subst (λ (i : AlphaInstr). list_all is_operate (i ∷ []) ≡ true) (sym m.1.is) refl) w.low (omega arith)
           (λ n lt le. is_inside p site.behind pc n (map plain (word ∷ []) ++ rest) w lt (omega arith))
           (behind (effect word regs) (compares to op size a b word target a_is a_fits s.0 s.1 e f h alone))
-      by ready_a second a_fits narrow unselected alone None e None f None h false k w behind =
+      by ready_a second a_fits narrow unselected alone None e None f None h w behind =
           computation_runs p site need pc to op size (placed homes a) (placed homes b) rest regs t w some target
           (placed_is homes d.are a a_is) (λ two. placed_is homes d.are b (b_is two))
           (record {
@@ -711,14 +653,4 @@ module _ (p : Placement) (site : Site) (known : Known) (homes : Homes) (standing
             second = λ two. let s = second two in placed_fits p site known homes standing regs d b s.0 s.1;
             held = λ is_so. let both : false ≡ true = sym unselected ∙ is_so in absurd (cc both);
           })
-          (λ done g l. behind g (computes_words to op size a b g target a_is a_fits ready_a second (no_quad (is_quad size) (made homes to op size a b) narrow f) unselected alone e f k done l))
-      by ready_a second a_fits narrow unselected alone None e None f None h true k w behind =
-          computation_runs p site need pc to SignExtend size (placed homes a) (placed homes b) rest regs t w some target
-          (placed_is homes d.are a a_is) (λ two. absurd (cc two))
-          (record {
-            zero = d.holds.form.zero;
-            first = placed_fits p site known homes standing regs d a a_is a_fits;
-            second = λ two. absurd (cc two);
-            held = λ is_so. absurd (cc is_so);
-          })
-          (λ done g l. behind g (extends_words to op size a b g target alone e f k done l))
+          (λ done g l. behind g (computes_words to op size a b g target a_is a_fits ready_a second (no_quad (is_quad size) (made homes to op size a b) narrow f) unselected alone e f done l))

@@ -29,7 +29,7 @@ use Rattle.micro_ops.specs.declared.program.Exit.TheVariants as exits
 use Rattle.micro_ops.specs.declared.program.Micro.{Micro}
 use Rattle.micro_ops.specs.declared.program.Micro.TheVariants.{Compute, Probe, Refuse, Read, Write, Locked, Commit, Codes, SetPsw, Leave}
 use Rattle.micro_ops.specs.declared.program.MicroOp.{MicroOp}
-use Rattle.micro_ops.specs.declared.program.MicroOp.TheVariants.{Move, SignExtend, ZeroExtend, Add, Sub, And, Or, Xor, AndNot, Equal, Less, LessUnsigned}
+use Rattle.micro_ops.specs.declared.program.MicroOp.TheVariants.{Add, Sub, And, Or, Xor, AndNot, Equal, Less, LessUnsigned}
 use Rattle.micro_ops.specs.Fits.{codes_fit, commit_fits, computation_fits, exit_fits, holding_of, is_ended, sources_fit, step, walk}
 use Rattle.micro_ops.specs.Known.{behind_commit, behind_write}
 use Rattle.micro_ops.specs.LeftOut.{is_left_out, is_low, is_used}
@@ -37,14 +37,14 @@ use Rattle.micro_ops.specs.Uses.{is_quad, is_select, is_unary, leaves_longword}
 use Rattle.micro_ops.specs.WordCounts.{argument_words, by_size, has_literal, is_literal, operation_words, program_words, second_words, words_of as count_of}
 use Rattle.compute_sequences.specs.Promises.{changes_only}
 use Rattle.compute_sequences.specs.Registers.{IsArgument, IsTarget, may_change}
-use Rattle.compute_sequences.specs.Words.{compute_code, is_constant, is_moved, is_short}
+use Rattle.compute_sequences.specs.Words.{compute_code, is_constant, is_short}
 use Rattle.compute_sequences.proofs.WholeLaws.{computed_encodable, computed_length, computed_writes}
 use Rattle.block_law.specs.CodeWords.{may_be_written}
 use Rattle.block_law.specs.Tidy.{may_fault, register_written, writes_register}
 use Rattle.program_codegen.specs.declared.homes.Homes.{Homes}
 use Rattle.program_codegen.specs.declared.lines.Line.{Line}
 use Rattle.program_codegen.specs.declared.points.Site.{Site}
-use Rattle.program_codegen.specs.Homes.{AreHomes, IsHome, are_short_rules, code_by, commit_stays, commit_words, compared, comparison, copied, direct_code, direct_lines, direct_step, end_lines, exit_behind, exit_stays, extended_first, extended_second, home_by, home_of, is_const, is_copying, is_home_constant, is_long_constant, is_shared, extending, long_operation, made, may_end, moved_words, new_home, placed, standing_in, with_home, end_words, step_by, waiting_words, choice_lines, next_exit, tested_at, tested_exit}
+use Rattle.program_codegen.specs.Homes.{AreHomes, IsHome, are_short_rules, code_by, commit_stays, commit_words, compared, comparison, copied, direct_code, direct_lines, direct_step, end_lines, exit_behind, exit_stays, extended_first, extended_second, home_by, home_of, is_const, is_copying, is_shared, long_operation, made, may_end, moved_words, new_home, placed, standing_in, with_home, end_words, step_by, waiting_words, choice_lines, next_exit, tested_at, tested_exit, is_short_constant}
 use Rattle.program_codegen.specs.Programs.{AllHaveWords, IsExit}
 use Rattle.program_codegen.specs.Words.{departing, exit_lines, plain, trap_lines, words_of}
 use Rattle.program_codegen.proofs.Coded.{fine_operates}
@@ -52,7 +52,7 @@ use Rattle.program_codegen.proofs.Endings.{above_codes, codes_local, codes_quiet
 use Rattle.program_codegen.proofs.Following.{opened}
 use Rattle.program_codegen.proofs.Fronts.{Shape, any_neither, change_front, line_front, quiet_kept, row_targets, row_words_are, silent_front, spares_append, targets, targets_append, words_append}
 use Rattle.program_codegen.proofs.HomeComputing.{compared_word, copying, made_word, no_quad}
-use Rattle.program_codegen.proofs.HomeFollowing.{Stepped, chained, ends_with, mapped, stepped, with_exit, row_apart, waits_same}
+use Rattle.program_codegen.proofs.HomeFollowing.{Stepped, ends_with, stepped, with_exit, row_apart, waits_same}
 use Rattle.program_codegen.proofs.HomeSomes.{chained, first_is, mapped}
 use Rattle.program_codegen.proofs.HomeTesting.{Tested, facts, tested}
 use Rattle.program_codegen.proofs.HomeHolding.{copied_home, extended_home, home_is, homes_are, placed_is}
@@ -66,13 +66,13 @@ use Rattle.program_codegen.proofs.Walk.{plain_length}
 
 -- ---- homes
 pub new_home_is : (homes : Homes) → AreHomes homes → (to : ℕ) (op : MicroOp) (size : Size) (a b : Arg) → IsArgument a → IsHome (new_home homes to op size a b)
-new_home_is homes are to op size a b is = by (copied homes to op size a) refl (made homes to op size a b) refl (is_home_constant to op size a) refl
+new_home_is homes are to op size a b is = by (copied homes to op size a) refl (made homes to op size a b) refl (is_short_constant to op size a) refl
   where
-    by : (o : Option ℕ) → copied homes to op size a ≡ o → (q : Option AlphaInstr) → made homes to op size a b ≡ q → (c : Bool) → is_home_constant to op size a ≡ c → IsHome (home_by o q c to)
+    by : (o : Option ℕ) → copied homes to op size a ≡ o → (q : Option AlphaInstr) → made homes to op size a b ≡ q → (c : Bool) → is_short_constant to op size a ≡ c → IsHome (home_by o q c to)
     by (Some r) e q f c g = copied_home homes are to op size a r is e
     by None e (Some word) f c g = let two = (made_word homes to op size a b word f).0 in (omega arith, λ not_so. omega arith)
     by None e None f true g =
-        let few = ltb-true to 3 (all_three (nat_lt to 3) (is_copying op size) (is_const a) g).0 in
+        let few = ltb-true to 3 (all_three (nat_lt to 3) (is_copying op size) (is_constant (is_short Long) a) g).0 in
         (omega arith, λ not_so. omega arith)
     by None e None f false g = tt
 
@@ -153,11 +153,6 @@ module _ (homes : Homes) (are : AreHomes homes) where
   made_words AndNot size o e = some size
   made_words op size o e = absurd (cc e)
 
-  move_words : (op : MicroOp) (size : Size) → is_moved op ≡ true → operation_words op size ≡ 1
-  move_words Move size e = refl
-  move_words ZeroExtend size e = refl
-  move_words op size e = absurd (cc e)
-
   same_count : (a : Arg) (size : Size) → is_quad size ≡ false → argument_words (placed homes a) size ≡ argument_words a size
   same_count (arguments.Temp temp) size narrow = by (home_of homes temp) size narrow
     where
@@ -199,11 +194,11 @@ module _ (homes : Homes) (are : AreHomes homes) where
     pub few : length words ≤ most
 
   pub direct_words : (to : ℕ) (op : MicroOp) (size : Size) (a b : Arg) → IsTarget (21 + to) → IsArgument a → (is_unary op ≡ false → IsArgument b) → (not (is_quad size) || is_some (made homes to op size a b)) ≡ true → Words (count_of (Compute to op size a b)) (direct_code homes to op size a b)
-  direct_words to op size a b target a_is b_is either = by (copied homes to op size a) refl (made homes to op size a b) refl (compared homes to op size a b) refl (is_long_constant to op size a) refl
+  direct_words to op size a b target a_is b_is either = by (copied homes to op size a) refl (made homes to op size a b) refl (compared homes to op size a b) refl
     where
-      by : (o : Option ℕ) → copied homes to op size a ≡ o → (q : Option AlphaInstr) → made homes to op size a b ≡ q → (u : Option AlphaInstr) → compared homes to op size a b ≡ u → (l : Bool) → is_long_constant to op size a ≡ l → Words (count_of (Compute to op size a b)) (code_by o q u (compute_code (extending l op) size (placed homes a) (placed homes b) (21 + to)))
-      by (Some r) e q f u h l k = record { encodable = All-nil IsEncodable; silent = refl; few = omega arith }
-      by None e (Some word) f u h l k =
+      by : (o : Option ℕ) → copied homes to op size a ≡ o → (q : Option AlphaInstr) → made homes to op size a b ≡ q → (u : Option AlphaInstr) → compared homes to op size a b ≡ u → Words (count_of (Compute to op size a b)) (code_by o q u (compute_code op size (placed homes a) (placed homes b) (21 + to)))
+      by (Some r) e q f u h = record { encodable = All-nil IsEncodable; silent = refl; few = omega arith }
+      by None e (Some word) f u h =
           let m = made_word homes to op size a b word f in
           let j = m.2 in
           let x_fits = first_fits a j.first a_is j.is_first in
@@ -214,7 +209,7 @@ module _ (homes : Homes) (are : AreHomes homes) where
             silent = subst (λ (w : AlphaInstr). list_all is_silent (w ∷ []) ≡ true) (sym j.is) refl;
             few = count;
           }
-      by None e None f (Some word) h l k =
+      by None e None f (Some word) h =
           let m = compared_word homes to op size a b word h in
           let j = m.1 in
           let x_fits = first_fits a j.first a_is j.is_first in
@@ -230,7 +225,7 @@ module _ (homes : Homes) (are : AreHomes homes) where
         where
           own : (n : ℕ) → ((n == n || n == 27) && true) ≡ true
           own n = let same : (n == n) ≡ true = grind (arith, nat_tests) in rw same refl
-      by None e None f None h false k =
+      by None e None f None h =
           let placed_b : is_unary op ≡ false → IsArgument (placed homes b) = λ two. placed_is homes are b (b_is two) in
           let narrow = no_quad (is_quad size) (made homes to op size a b) either f in
           let first = same_count a size narrow in
@@ -239,20 +234,6 @@ module _ (homes : Homes) (are : AreHomes homes) where
           record {
             encodable = computed_encodable (placed homes a) (placed homes b) (21 + to) (placed_is homes are a a_is) target op size placed_b;
             silent = list_all_of (changes_only (may_change (21 + to))) is_silent (changes_silent (21 + to) target) (compute_code op size (placed homes a) (placed homes b) (21 + to)) (computed_writes (placed homes a) (placed homes b) (21 + to) (placed_is homes are a a_is) target op size placed_b);
-            few = omega arith;
-          }
-      by None e None f None h true k =
-          let x = and_parts (is_home_constant to op size a) (not (is_constant (is_short Long) a)) k in
-          let y = all_three (nat_lt to 3) (is_copying op size) (is_const a) x.0 in
-          let c = copying op size y.1 in
-          let narrow = no_quad (is_quad size) (made homes to op size a b) either f in
-          let first = same_count a size narrow in
-          let one : operation_words op size ≡ 1 = move_words op size c.0 in
-          let one_extends : operation_words SignExtend size ≡ 1 = ap (operation_words SignExtend) c.1 in
-          let most : length (compute_code SignExtend size (placed homes a) (placed homes b) (21 + to)) ≤ operation_words SignExtend size + argument_words (placed homes a) size + 0 = computed_length SignExtend size (placed homes a) (placed homes b) (21 + to) in
-          record {
-            encodable = computed_encodable (placed homes a) (placed homes b) (21 + to) (placed_is homes are a a_is) target SignExtend size (λ two. absurd (cc two));
-            silent = list_all_of (changes_only (may_change (21 + to))) is_silent (changes_silent (21 + to) target) (compute_code SignExtend size (placed homes a) (placed homes b) (21 + to)) (computed_writes (placed homes a) (placed homes b) (21 + to) (placed_is homes are a a_is) target SignExtend size (λ two. absurd (cc two)));
             few = omega arith;
           }
 

@@ -130,7 +130,7 @@ one_word op homes Long a b to = joined_word op (extended_first homes a) (extende
 one_word op homes size a b to = None
 
 -- What a computation does: it copies, and has no words; it has one word, whose result in temporary 2 is extended with its
--- sign, or which compares; it is a constant; or else.
+-- sign, or which compares; it is a short constant; or else.
 abbrev pub is_copying : MicroOp → Size → Bool
 is_copying op Long = is_moved op
 is_copying op size = false
@@ -155,21 +155,8 @@ made homes to op size a b = if to == 2 then one_word (long_operation op) homes (
 abbrev pub compared : Homes → (to : ℕ) → MicroOp → Size → (a b : Arg) → Option AlphaInstr
 compared homes to op size a b = one_word (comparison op) homes size a b (holder to)
 
--- a constant that is moved
-abbrev pub is_const : Arg → Bool
-is_const (arguments.Const value) = true
-is_const arg = false
-
-abbrev pub is_home_constant : (to : ℕ) → MicroOp → Size → (a : Arg) → Bool
-is_home_constant to op size a = nat_lt to 3 && is_copying op size && is_const a
-
--- One that isn't short is extended with its sign; a short one is so already.
-abbrev pub is_long_constant : (to : ℕ) → MicroOp → Size → (a : Arg) → Bool
-is_long_constant to op size a = is_home_constant to op size a && not (is_constant (is_short Long) a)
-
-abbrev pub extending : (long : Bool) → MicroOp → MicroOp
-extending true op = SignExtend
-extending false op = op
+abbrev pub is_short_constant : (to : ℕ) → MicroOp → Size → (a : Arg) → Bool
+is_short_constant to op size a = nat_lt to 3 && is_copying op size && is_constant (is_short Long) a
 
 abbrev pub home_by : (copied : Option ℕ) → (made : Option AlphaInstr) → (constant : Bool) → (to : ℕ) → Option ℕ
 home_by (Some register) made constant to = Some register
@@ -177,7 +164,7 @@ home_by None (Some word) constant to = Some (holder to)
 home_by None None constant to = if constant then Some (holder to) else None
 
 abbrev pub new_home : Homes → (to : ℕ) → MicroOp → Size → (a b : Arg) → Option ℕ
-new_home homes to op size a b = home_by (copied homes to op size a) (made homes to op size a b) (is_home_constant to op size a) to
+new_home homes to op size a b = home_by (copied homes to op size a) (made homes to op size a b) (is_short_constant to op size a) to
 
 abbrev pub code_by : (copied : Option ℕ) → (made compared : Option AlphaInstr) → List AlphaInstr → List AlphaInstr
 code_by (Some register) made compared words = []
@@ -188,7 +175,7 @@ code_by None None None words = words
 abbrev pub direct_code : Homes → (to : ℕ) → MicroOp → Size → (a b : Arg) → List AlphaInstr
 direct_code homes to op size a b =
     code_by (copied homes to op size a) (made homes to op size a b) (compared homes to op size a b)
-    (compute_code (extending (is_long_constant to op size a) op) size (placed homes a) (placed homes b) (holder to))
+    (compute_code op size (placed homes a) (placed homes b) (holder to))
 
 -- A word that makes the result waits until another computation has words, or up to the end.
 abbrev pub waiting_words : Option AlphaInstr → List AlphaInstr

@@ -2,7 +2,7 @@
 ghost use Rattle.std.specs.Prelude.{◌≡◌, ◌++◌, ◌≤◌, OnOk, IfOk, false, map};
 ghost use Rattle.compute_sequences.specs.Registers.{IsArgument, IsTarget};
 ghost use Rattle.micro_ops.specs.Uses.{is_unary};
-ghost use Rattle.program_codegen.specs.Homes.{AreHomes, home_of, with_home, home_at, stands_in, is_shared, argument_in, standing_in, placed, extended_register, extended_second, extended_first, long_operation, comparison, joined_word, one_word, is_copying, copied, is_logical, made_size, made, compared, is_home_constant, is_long_constant, extending, new_home, direct_code, is_direct, waiting_words, direct_by};
+ghost use Rattle.program_codegen.specs.Homes.{AreHomes, home_of, with_home, home_at, stands_in, is_shared, argument_in, standing_in, placed, extended_register, extended_second, extended_first, long_operation, comparison, joined_word, one_word, is_copying, copied, is_logical, made_size, made, compared, new_home, direct_code, is_direct, waiting_words, direct_by, is_short_constant};
 ghost use Rattle.program_codegen.specs.Words.{holder, plain};
 
 use crate::lines::{Line, holder, push_words};
@@ -299,24 +299,10 @@ fn compared(homes: Homes, to: u8, op: MicroOp, size: Size, a: Arg, b: Arg) -> Op
     one_word(comparison(op), homes, size, a, b, holder(to))
 }
 
-/// Whether a constant longword is moved.
-fn is_home_constant(to: u8, op: MicroOp, size: Size, a: Arg) -> bool
-    ensures { result ≡ is_home_constant to op size a }
+fn is_short_constant(to: u8, op: MicroOp, size: Size, a: Arg) -> bool
+    ensures { result ≡ is_short_constant to op size a }
 {
-    to < HOMES && is_copying(op, size) && matches!(a, Arg::Const(_))
-}
-
-fn is_long_constant(to: u8, op: MicroOp, size: Size, a: Arg) -> bool
-    ensures { result ≡ is_long_constant to op size a }
-{
-    is_home_constant(to, op, size, a) && !matches!(a, Arg::Const(value) if value < SHORT)
-}
-
-/// One that isn't short is extended with its sign.
-fn extending(long: bool, op: MicroOp) -> MicroOp
-    ensures { result ≡ extending long op }
-{
-    if long { MicroOp::SignExtend } else { op }
+    to < HOMES && is_copying(op, size) && matches!(a, Arg::Const(value) if value < SHORT)
 }
 
 /// Whether a computation is on longwords at most, or one that they give the same, doesn't read what it writes, and none has its
@@ -374,7 +360,7 @@ pub(crate) fn push_direct(
             ..now
         });
     }
-    let home = if is_home_constant(to, op, size, a) {
+    let home = if is_short_constant(to, op, size, a) {
         Some(holder(to))
     } else {
         None
@@ -384,7 +370,7 @@ pub(crate) fn push_direct(
     } else {
         let words = compute_words(
             alloc,
-            extending(is_long_constant(to, op, size, a), op),
+            op,
             size,
             placed(homes, a),
             placed(homes, b),
