@@ -38,7 +38,7 @@ use Rattle.micro_ops.proofs.Held.{by_six}
 use Rattle.block_law.specs.CodeWords.{codes_in, may_be_written, temps_in}
 use Rattle.block_law.specs.Placements.{Placement}
 use Rattle.block_law.proofs.Kept.{registers_put, form_kept}
-use Rattle.block_law.proofs.Rules.{Always, goes, operates, roomy}
+use Rattle.block_law.proofs.Rules.{Always, operates, roomy}
 use Rattle.program_codegen.specs.declared.direct.Raised.{Raised}
 use Rattle.block_law.specs.Tidy.{is_kept}
 use Rattle.program_codegen.specs.declared.homes.Homes.{Homes}

@@ -28,7 +28,7 @@ use Rattle.block_law.proofs.Kept.{state_kept}
 use Rattle.block_law.proofs.Rules.{Always, roomy, goes, passes, skips, traps}
 use Rattle.program_codegen.specs.declared.lines.Line.{Line}
 use Rattle.program_codegen.specs.declared.points.Site.{Site}
-use Rattle.program_codegen.specs.Words.{plain, marked, trapping, overflow_made, overflow_register, tells_overflow, may_overflow, load_pc, overflow_lines, enabled_lines, ready_lines, made_lines, tested_lines, may_trap, trap_lines}
+use Rattle.program_codegen.specs.Words.{plain, marked, trapping, overflow_made, overflow_register, tells_overflow, may_overflow, load_pc, overflow_lines, ready_lines, made_lines, tested_lines, may_trap, trap_lines}
 use Rattle.program_codegen.specs.Programs.{IsExit, is_narrow}
 use Rattle.program_codegen.proofs.Walk.{Within, next, stands, is_inside, row_rest, plain_length}
 use Rattle.program_codegen.proofs.Coded.{Coded, left_is, coded_still}

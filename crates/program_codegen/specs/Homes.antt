@@ -25,7 +25,7 @@ use Rattle.micro_ops.specs.declared.program.Exit.TheVariants.{Next, Fixed, Choic
 use Rattle.micro_ops.specs.declared.program.Micro.{Micro}
 use Rattle.micro_ops.specs.declared.program.Micro.TheVariants.{Compute, Commit, Codes, Leave}
 use Rattle.micro_ops.specs.declared.program.MicroOp.{MicroOp}
-use Rattle.micro_ops.specs.declared.program.MicroOp.TheVariants.{Add, Sub, And, Or, Xor, AndNot, SignExtend, Equal, Less, LessUnsigned, Move}
+use Rattle.micro_ops.specs.declared.program.MicroOp.TheVariants.{Add, Sub, And, Or, Xor, AndNot, Equal, Less, LessUnsigned, Move}
 use Rattle.compute_sequences.specs.Words.{compute_code, is_constant, is_moved, is_short}
 use Rattle.program_codegen.specs.declared.direct.Raised.{Raised}
 use Rattle.alpha_meaning.specs.Loops.{written}
