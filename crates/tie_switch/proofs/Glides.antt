@@ -8,7 +8,7 @@ use Rattle.block_law.specs.Translations.{Code}
 use Rattle.prepared_code.specs.Inside.{Crosses}
 use Rattle.prepared_code.specs.Known.{guess}
 use Rattle.prepared_code.specs.Strides.{arrives}
-use Rattle.tie_switch.specs.Glides.{Fails, Glided, OneMore, is_guessed}
+use Rattle.tie_switch.specs.Glides.{Glided, OneMore, is_guessed}
 
 -- ---- whether a guess is within what is left
 -- a guess that is looked at, and not 0
@@ -41,13 +41,8 @@ none_left code cpu left none = by (guess code cpu.pc == 0) refl (nat_le (guess c
         let zero : guess code cpu.pc ≡ 0 = omega (arith, leb-true (guess code cpu.pc) left l, none) in
         sym (sym e ∙ eq-eqb (guess code cpu.pc) 0 zero)
 
--- ---- a block more, or none
+-- ---- a block more
 pub one_block_more : (code : Code) (most : ℕ) (first c d : Cpu) (made within steps : ℕ) → Glided code most first c made → within ≡ guess code c.pc → 0 < within → within ≤ most - made
     → true ≡ arrives code (state_of c) within → Crosses code c d steps → Glided code most first d (made + steps)
 one_block_more code most first c d made within steps glided is some few told crosses =
     OneMore glided (guessed code c within (most - made) is some few) (ap (arrives code (state_of c)) (sym is) ∙ sym told) crosses
-
-pub guess_fails : (code : Code) (most : ℕ) (first c : Cpu) (made within : ℕ) → Glided code most first c made → within ≡ guess code c.pc → 0 < within → within ≤ most - made
-    → false ≡ arrives code (state_of c) within → Fails code most first made
-guess_fails code most first c made within glided is some few told =
-    record { there = c; glided = glided; guessed = guessed code c within (most - made) is some few; fails = ap (arrives code (state_of c)) (sym is) ∙ sym told }

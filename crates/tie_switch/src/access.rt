@@ -1,6 +1,8 @@
 // Accesses inside a block, made with the registers in place.
-ghost use Rattle.std.specs.Prelude.{◌≡◌, ◌≢◌, ◌≤◌, ◌<◌, ◌+◌, ◌↔◌, ◌⊎◌, ℕ, false, true, Some, IfSome, IfNone};
+ghost use Rattle.std.specs.Prelude.{◌≡◌, ◌≢◌, ◌≤◌, ◌<◌, ◌+◌, ◌↔◌, ◌⊎◌, ℕ, false, true, Some, IfSome, IfNone, is_some};
+ghost use Rattle.alpha_machine.specs.Step.{state_of};
 ghost use Rattle.memory_core.specs.Limits.{CountsPuts};
+ghost use Rattle.prepared_code.specs.Asks.{asks_inside};
 ghost use Rattle.system_model.specs.Legal.{spent};
 ghost use Rattle.system_model.specs.Processors as model;
 ghost use Rattle.tie_switch.specs.Courses.{course_of};
@@ -37,6 +39,7 @@ impl Course {
         ensures set_up { M.set_up memory.new ≡ M.set_up memory.old }
         ensures place { (memory.new ≡ memory.old) ⊎ M.same memory.old memory.new }
         ensures serves { (thread : ℕ) → M.serves memory.old thread ↔ M.serves memory.new thread }
+        ensures just { is_some result ≡ asks_inside prepared.now (state_of self.old.cpu) }
         ensures stays { IfNone result ((self.new ≡ self.old) × (memory.new ≡ memory.old)) }
         ensures landed { self.new.landed ≡ self.old.landed }
         ensures retired { self.new.retired ≡ self.old.retired }

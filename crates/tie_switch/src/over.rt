@@ -1,13 +1,17 @@
 // Local steps and accesses inside blocks, in one course.
 ghost use Rattle.std.specs.Prelude.{◌≡◌, ◌<◌, ◌≤◌, ◌+◌, ◌^◌, ◌↔◌, ℕ, false, true, IfSome, is_some};
+ghost use Rattle.alpha_machine.specs.Step.{state_of};
+ghost use Rattle.alpha_machine.specs.declared.cpu.Cpu.{Cpu};
 ghost use Rattle.memory_core.specs.Limits.{CountsPuts};
 ghost use Rattle.system_model.specs.Legal.{spent};
 ghost use Rattle.system_model.specs.Processors as model;
+ghost use Rattle.tie_switch.specs.Asks.{Rests};
 ghost use Rattle.tie_switch.specs.Courses.{HasOpcode, course_of};
 ghost use Rattle.tie_switch.specs.Live.{KeepsRead, is_spent};
 ghost use Rattle.tie_switch.specs.ManyTurns.{IsBehind, IsTurns, MayCome};
 ghost use Rattle.tie_switch.specs.Processors.{HasAdvanced, HasSteps, IsPlain, is_running};
 ghost use Rattle.tie_switch.specs.Seen.{setting_of};
+ghost use Rattle.tie_switch.specs.Settings.{image_setting};
 ghost use Rattle.tie_switch.specs.Turns.{has_ended};
 ghost use Rattle.vax_form.specs.declared.pages.Pages.{Pages};
 ghost use Rattle.vax_form.specs.declared.state.Pending.TheVariants.{Nothing};
@@ -75,6 +79,7 @@ impl Processor {
         ensures set_up { M.set_up memory.new ≡ M.set_up memory.old }
         ensures place { IsBehind M.same memory.old memory.new }
         ensures serves { (thread : ℕ) → M.serves memory.old thread ↔ M.serves memory.new thread }
+        ensures rests { result.1 ≡ Turn.Went → result.0 < most → Rests (image_setting prepared.now.pages prepared.now.code setting.entry.ranges.now) prepared.now self.now.thread (state_of course.new.cpu) }
         ensures retired { course.new.retired ≤ course.old.retired + result.0 }
         ensures read { KeepsRead (MayCome M.same M.between memory.old) (M.seen memory.old) (M.seen memory.new) }
         ensures allowed { CountsPuts (M.set_up memory.old).limit → result.1 ≡ Turn.Went }
@@ -124,6 +129,8 @@ impl Processor {
         ensures ended { result.1 ≡ Turn.Ended → has_ended (processor_of self.new).mode ≡ true }
         ensures read { KeepsRead (MayCome M.same M.between memory.old) (M.seen memory.old) (M.seen memory.new) }
         ensures allowed { CountsPuts (M.set_up memory.old).limit → result.1 ≡ Turn.Went }
+        ensures rests { is_running self.old ≡ true → result.1 ≡ Turn.Went → result.0 < most → self.new.steps < self.new.budget → (cpu : Cpu) → self.new.mode ≡ Mode.Runs cpu
+            → Rests (image_setting prepared.now.pages prepared.now.code setting.entry.ranges.now) prepared.now self.old.thread (state_of cpu) }
         ensures unspent { result.1 ≡ Turn.Went → is_spent (processor_of self.old).mode ≡ false → is_spent (processor_of self.new).mode ≡ false }
         ensures turned { (p : model.Processor) → StandsFor setting.entry.pages.now self.old p
             → HasAdvanced (setting_of setting.entry) (M.set_up memory.old) (MayCome M.same M.between memory.old) self.old.budget p result.0 self.new (M.seen memory.old) (M.seen memory.new) }

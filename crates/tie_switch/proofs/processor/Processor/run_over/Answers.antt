@@ -1,11 +1,15 @@
 -- Local steps, and then each time an access and the local steps behind it.
-use Rattle.std.proofs.Common.{◌≡◌, ◌+◌, ◌<◌, ◌≤◌, Some, refl, sym, ap, ◌∙◌, subst, arith}
+use Rattle.std.proofs.Common.{◌≡◌, ◌+◌, ◌<◌, ◌≤◌, false, Some, refl, sym, ap, ◌∙◌, subst, arith}
+use Rattle.alpha_machine.specs.Step.{state_of}
 use Rattle.memory_core.specs.Limits.{CountsPuts}
 use Rattle.memory_core.specs.declared.entry.SetUp.{SetUp}
+use Rattle.prepared_code.specs.Asks.{asks_inside}
+use Rattle.prepared_code.specs.Probes.{passes}
 use Rattle.system_model.specs.Legal.{spent}
 use Rattle.system_model.specs.Processors.{turn}
 use Rattle.tie_switch.specs.Asks.{HasCourseStep}
 use Rattle.tie_switch.specs.Courses.{Goes, course_of}
+use Rattle.tie_switch.specs.Inside.{goes_on_locally}
 use Rattle.tie_switch.specs.ManyTurns.{IsTurns, MayCome, NoAccess}
 use Rattle.tie_switch.specs.Processors.{ProcessorValue, processor_of}
 use Rattle.tie_switch.specs.Seen.{setting_of}
@@ -36,6 +40,10 @@ loop-made-init g c =
       set_up = refl;
       behind = NoAccess;
       serves = λ thread. (λ a. a, λ a. a);
+      rests = λ l. (
+        subst (λ (x : ProcessorValue). goes_on_locally (image_setting p.pages p.code c.args.setting.ranges.now) x.thread (state_of ran.new.self.cpu) ≡ false) c.self.view_is (ran.ensures.stops (omega (arith, l))),
+        ran.ensures.probes (omega (arith, l)),
+      );
       read = λ none. refl;
       opcode = ran.ensures.opcode;
       retired = ran.ensures.retired;
@@ -93,6 +101,10 @@ loop-made-preserved g c =
       set_up = access.ensures.set_up ∙ kept.set_up;
       behind = behind_turn g.M.Memory.same first l.memory access.new.memory kept.behind access.ensures.place;
       serves = λ thread. both (kept.serves thread) (access.ensures.serves thread);
+      rests = λ more. (
+        subst (λ (x : ProcessorValue). goes_on_locally (image_setting p.pages p.code c.args.setting.ranges.now) x.thread (state_of ran.new.self.cpu) ≡ false) c.self.view_is (ran.ensures.stops (omega (arith, more))),
+        ran.ensures.probes (omega (arith, more)),
+      );
       read = λ none. access.ensures.read (λ entries come. none entries (record { memory = l.memory; behind = kept.behind; comes = come })) ∙ kept.read none;
       opcode = ran.ensures.opcode;
       retired = omega (arith, ran.ensures.retired, access.ensures.retired, kept.retired);
@@ -135,3 +147,14 @@ returns-in-Some-Ended-clause-read g c none =
 pub returns-in-Some-Ended-clause-allowed : goal.returns-in-Some-Ended-clause-allowed
 returns-in-Some-Ended-clause-allowed g c puts =
     absurd (c.access.ensures.allowed (subst (λ (u : SetUp). CountsPuts u.limit) (sym c.loop-made.invariant.set_up) puts) (c.in-Some-Ended.is ∙ ap Some c.in-Some-Ended.field-0-is))
+
+pub returns-in-None-clause-rests : goal.returns-in-None-clause-rests
+returns-in-None-clause-rests g c = λ went l.
+    let p = c.args.prepared.now in
+    let same = c.in-None.ensures.stays.0 in
+    let kept = c.loop-made.invariant.rests l in
+    record {
+      local = subst (λ (x : Course). goes_on_locally (image_setting p.pages p.code c.args.setting.ranges.now) c.args.self.now.thread (state_of x.cpu) ≡ false) (sym same) kept.0;
+      probe = subst (λ (x : Course). passes p (state_of x.cpu) ≡ false) (sym same) kept.1;
+      access = subst (λ (x : Course). asks_inside p (state_of x.cpu) ≡ false) (sym same) (sym c.in-None.ensures.just);
+    }
