@@ -1,6 +1,6 @@
 -- Exits that are chosen by what stands in a register.
-use Rattle.std.proofs.Common.{◌≡◌, ℕ, ◌+◌, ◌-◌, ◌%◌, ◌^◌, ◌<◌, ◌≤◌, refl, sym, ap, ◌∙◌, subst, arith, eqb-true, List, [], ◌∷◌, ◌++◌, length, map, Option, Some, None, Bool, true, false, lit≤}
-use Rattle.std.specs.Prelude.{pos, ◌==◌, ◌&&◌, not, nat_lt, option_map, unwrap_or, if◌then◌else◌}
+use Rattle.std.proofs.Common.{◌≡◌, ℕ, ◌+◌, ◌-◌, ◌%◌, ◌^◌, ◌<◌, ◌≤◌, refl, sym, ap, ◌∙◌, subst, arith, eqb-true, List, [], ◌∷◌, ◌++◌, length, map, Option, Some, None, Bool, true, false, lit≤, lit<}
+use Rattle.std.specs.Prelude.{pos, ◌==◌, ◌&&◌, not, nat_lt, option_map, unwrap_or, if◌then◌else◌, ◌||◌, is_none, bit_and}
 use Rattle.std.specs.List.{list_all}
 use Rattle.std.proofs.Math.Nat.{mod-eq_of_lt}
 use Rattle.std.proofs.lemmas.Bool.Decides.{nat_tests}
@@ -42,7 +42,7 @@ use Rattle.block_law.proofs.Rules.{Always, operates, passes, roomy, skips}
 use Rattle.program_codegen.specs.declared.homes.Homes.{Homes}
 use Rattle.program_codegen.specs.declared.lines.Line.{Line}
 use Rattle.program_codegen.specs.declared.points.Site.{Site}
-use Rattle.program_codegen.specs.Homes.{AreHomes, are_short_rules, bit_register, bit_test, byte_test, choice_lines, code_test, copied, home_of, is_direct, made, may_test, moved_words, new_home, placed, standing_in, test_of, tested_exit, waiting_words, with_home}
+use Rattle.program_codegen.specs.Homes.{AreHomes, are_short_rules, bit_register, bit_test, byte_test, choice_lines, code_test, copied, home_of, is_direct, made, may_test, moved_words, new_home, placed, standing_in, test_of, tested_exit, waiting_words, with_home, argument_in, home_by, is_short_constant, long_test}
 use Rattle.program_codegen.specs.Programs.{rule_of}
 use Rattle.program_codegen.specs.Words.{exit_lines, may_trap, plain}
 use Rattle.program_codegen.proofs.Coded.{Coded}
@@ -61,18 +61,19 @@ use Rattle.program_codegen.proofs.Walk.{Within, behind_exit, is_inside, next, ro
 -- ---- the tests
 module _ (homes : Homes) (P : MicroOp → Size → Arg → Arg → (BranchOp × ℕ) → Type 0)
     (bit : (a : Arg) (r : ℕ) → bit_register homes a ≡ Some r → P And Byte a (arguments.Const 1) (Blbc, r))
+    (long : (a : Arg) (r : ℕ) → bit_register homes a ≡ Some r → P And Long a (arguments.Const 1) (Blbc, r))
     (code : (flag : ℕ) (b : Arg) → flag < 4 → P Move Byte (arguments.Flag flag) b (Beq, 16 + flag)) where
-  by_bit : (a b : Arg) (test : BranchOp × ℕ) → bit_test homes a b ≡ Some test → P And Byte a b test
-  by_bit a (arguments.Const value) test e = by (value == 1) refl e
+  by_bit : (size : Size) → ((a : Arg) (r : ℕ) → bit_register homes a ≡ Some r → P And size a (arguments.Const 1) (Blbc, r)) → (a b : Arg) (test : BranchOp × ℕ) → bit_test homes a b ≡ Some test → P And size a b test
+  by_bit size there a (arguments.Const value) test e = by (value == 1) refl e
     where
-      by : (c : Bool) → (value == 1) ≡ c → (if c then option_map {U = BranchOp × ℕ} (λ (r : ℕ). (Blbc, r)) (bit_register homes a) else None) ≡ Some test → P And Byte a (arguments.Const value) test
+      by : (c : Bool) → (value == 1) ≡ c → (if c then option_map {U = BranchOp × ℕ} (λ (r : ℕ). (Blbc, r)) (bit_register homes a) else None) ≡ Some test → P And size a (arguments.Const value) test
       by true is e =
           let m = mapped ℕ (BranchOp × ℕ) (λ (r : ℕ). (Blbc, r)) (bit_register homes a) test e in
-          subst (λ n. P And Byte a (arguments.Const n) test) (sym (eqb-true value 1 is)) (subst (P And Byte a (arguments.Const 1)) m.whole (bit a m.found m.is))
+          subst (λ n. P And size a (arguments.Const n) test) (sym (eqb-true value 1 is)) (subst (P And size a (arguments.Const 1)) m.whole (there a m.found m.is))
       by false is e = absurd (cc e)
-  by_bit a (arguments.Temp temp) test e = absurd (cc e)
-  by_bit a (arguments.Register number) test e = absurd (cc e)
-  by_bit a (arguments.Flag flag) test e = absurd (cc e)
+  by_bit size there a (arguments.Temp temp) test e = absurd (cc e)
+  by_bit size there a (arguments.Register number) test e = absurd (cc e)
+  by_bit size there a (arguments.Flag flag) test e = absurd (cc e)
 
   by_code : (a b : Arg) (test : BranchOp × ℕ) → code_test a ≡ Some test → P Move Byte a b test
   by_code (arguments.Flag flag) b test e = by (nat_lt flag 4) refl e
@@ -85,14 +86,18 @@ module _ (homes : Homes) (P : MicroOp → Size → Arg → Arg → (BranchOp × 
   by_code (arguments.Const value) b test e = absurd (cc e)
 
   by_byte : (op : MicroOp) (a b : Arg) (test : BranchOp × ℕ) → byte_test homes op a b ≡ Some test → P op Byte a b test
-  by_byte And a b test e = by_bit a b test e
+  by_byte And a b test e = by_bit Byte bit a b test e
   by_byte Move a b test e = by_code a b test e
   by_byte op a b test e = absurd (cc e)
+
+  by_long : (op : MicroOp) (a b : Arg) (test : BranchOp × ℕ) → long_test homes op a b ≡ Some test → P op Long a b test
+  by_long And a b test e = by_bit Long long a b test e
+  by_long op a b test e = absurd (cc e)
 
   pub by_test : (op : MicroOp) (size : Size) (a b : Arg) (test : BranchOp × ℕ) → test_of homes op size a b ≡ Some test → P op size a b test
   by_test op Byte a b test e = by_byte op a b test e
   by_test op Word a b test e = absurd (cc e)
-  by_test op Long a b test e = absurd (cc e)
+  by_test op Long a b test e = by_long op a b test e
   by_test op Quad a b test e = absurd (cc e)
 
 -- what is known of one, whatever the registers
@@ -100,8 +105,7 @@ pub record Facts (homes : Homes) (to : ℕ) (op : MicroOp) (size : Size) (a b : 
   pub narrow : is_quad size ≡ false
   pub unselected : is_select op ≡ false
   pub uncopied : copied homes to op size a ≡ None
-  pub unmade : made homes to op size a b ≡ None
-  pub homeless : home_of (with_home to (new_home homes to op size a b) homes) to ≡ None
+  pub homeless : made homes to op size a b ≡ None → home_of (with_home to (new_home homes to op size a b) homes) to ≡ None
   pub unlinked : links test.0 ≡ false
   pub small : IsArgument a → test.1 < 32
   pub value : (regs : Regs) (held : ℕ) → ((n : ℕ) → 16 ≤ n → n < 20 → regs n < 2) → (computed op size (value_at regs (placed homes a)) (value_at regs (placed homes b)) held == 0) ≡ taken test.0 (regs test.1)
@@ -145,6 +149,10 @@ module _ (homes : Homes) (are : AreHomes homes) where
   bit_small (arguments.Flag flag) r e is = absurd (cc e)
   bit_small (arguments.Const value) r e is = absurd (cc e)
 
+  long_value : (x held : ℕ) → computed And Long x 1 held ≡ x % 2
+  unfolding value_from
+  long_value x held = let low : x % 2 ^ 32 % 2 ≡ x % 2 = omega arith in and_mask (x % 2 ^ 32) 1 ∙ low
+
   bit_value : (x held : ℕ) → computed And Byte x 1 held ≡ x % 2
   unfolding value_from
   bit_value x held = let low : x % 256 % 2 ≡ x % 2 = omega arith in and_mask (x % 256) 1 ∙ low
@@ -154,18 +162,32 @@ module _ (homes : Homes) (are : AreHomes homes) where
   code_value x y held lt = mod-eq_of_lt (omega (arith, lt))
 
   pub facts : (to : ℕ) → to < 6 → (op : MicroOp) (size : Size) (a b : Arg) (test : BranchOp × ℕ) → test_of homes op size a b ≡ Some test → Facts homes to op size a b test
-  facts to lt = by_test homes (Facts homes to) bit code
+  facts to lt = by_test homes (Facts homes to) bit long code
     where
       bit : (a : Arg) (r : ℕ) → bit_register homes a ≡ Some r → Facts homes to And Byte a (arguments.Const 1) (Blbc, r)
       bit a r e = record {
         narrow = refl;
         unselected = refl;
         uncopied = by_six (λ n. copied homes n And Byte a ≡ None) refl refl refl refl refl refl to lt;
-        unmade = by_six (λ n. made homes n And Byte a (arguments.Const 1) ≡ None) refl refl refl refl refl refl to lt;
-        homeless = by_six (λ n. home_of (with_home n (new_home homes n And Byte a (arguments.Const 1)) homes) n ≡ None) refl refl refl refl refl refl to lt;
+        homeless = λ unmade.
+            ap (λ (o : Option AlphaInstr). home_of (with_home to (home_by (copied homes to And Byte a) o (is_short_constant to And Byte a) to) homes) to) unmade
+            ∙ by_six (λ n. home_of (with_home n (home_by (copied homes n And Byte a) None (is_short_constant n And Byte a) n) homes) n ≡ None) refl refl refl refl refl refl to lt;
         unlinked = refl;
         small = bit_small a r e;
         value = λ regs held codes. ap (λ n. n == 0) (bit_value (value_at regs (placed homes a)) held ∙ same_bit a r regs e);
+      }
+
+      long : (a : Arg) (r : ℕ) → bit_register homes a ≡ Some r → Facts homes to And Long a (arguments.Const 1) (Blbc, r)
+      long a r e = record {
+        narrow = refl;
+        unselected = refl;
+        uncopied = by_six (λ n. copied homes n And Long a ≡ None) refl refl refl refl refl refl to lt;
+        homeless = λ unmade.
+            ap (λ (o : Option AlphaInstr). home_of (with_home to (home_by (copied homes to And Long a) o (is_short_constant to And Long a) to) homes) to) unmade
+            ∙ by_six (λ n. home_of (with_home n (home_by (copied homes n And Long a) None (is_short_constant n And Long a) n) homes) n ≡ None) refl refl refl refl refl refl to lt;
+        unlinked = refl;
+        small = bit_small a r e;
+        value = λ regs held codes. ap (λ n. n == 0) (long_value (value_at regs (placed homes a)) held ∙ same_bit a r regs e);
       }
 
       code : (flag : ℕ) (b : Arg) → flag < 4 → Facts homes to Move Byte (arguments.Flag flag) b (Beq, 16 + flag)
@@ -173,8 +195,7 @@ module _ (homes : Homes) (are : AreHomes homes) where
         narrow = refl;
         unselected = refl;
         uncopied = by_six (λ n. copied homes n Move Byte (arguments.Flag flag) ≡ None) refl refl refl refl refl refl to lt;
-        unmade = by_six (λ n. made homes n Move Byte (arguments.Flag flag) b ≡ None) refl refl refl refl refl refl to lt;
-        homeless = by_six (λ n. home_of (with_home n (new_home homes n Move Byte (arguments.Flag flag) b) homes) n ≡ None) refl refl refl refl refl refl to lt;
+        homeless = λ unmade. by_six (λ n. home_of (with_home n (new_home homes n Move Byte (arguments.Flag flag) b) homes) n ≡ None) refl refl refl refl refl refl to lt;
         unlinked = refl;
         small = λ is. omega arith;
         value = λ regs held codes. of regs held (codes (16 + flag) (omega arith) (omega arith));
@@ -193,6 +214,7 @@ pub record Tested (site : Site) (codes : List AlphaInstr) (homes : Homes) (to : 
   pub is : exit ≡ exits.Choice to chosen other
   pub own : to < 6
   pub direct : is_direct homes to op size a b ≡ true
+  pub unmade : made homes to op size a b ≡ None
   pub no_codes : codes ≡ []
   pub no_trap : may_trap site ≡ false
   pub short : are_short_rules site.behind ≡ true
@@ -203,6 +225,10 @@ pub record Tested (site : Site) (codes : List AlphaInstr) (homes : Homes) (to : 
 pub tested : (site : Site) (codes : List AlphaInstr) (homes : Homes) (to : ℕ) (op : MicroOp) (size : Size) (a b : Arg) (exit : Exit) (lines : List Line) → tested_exit site codes homes to op size a b exit ≡ Some lines → Tested site codes homes to op size a b exit lines
 tested site codes homes to op size a b (exits.Choice when chosen other) lines e = by (when == to && may_test site codes homes to op size a b) refl e
   where
+    nothing : (o : Option AlphaInstr) → is_none o ≡ true → o ≡ None
+    nothing None e = refl
+    nothing (Some word) e = absurd (cc e)
+
     none : (codes : List AlphaInstr) → (length codes == 0) ≡ true → codes ≡ []
     none [] e = refl
     none (word ∷ words) e = let zero = eqb-true (length (word ∷ words)) 0 e in absurd (omega arith)
@@ -211,8 +237,8 @@ tested site codes homes to op size a b (exits.Choice when chosen other) lines e 
         → (if c then option_map (λ (test : BranchOp × ℕ). map plain (waiting_words homes.waiting) ++ choice_lines test chosen other) (test_of homes op size a b) else None) ≡ Some lines → Tested site codes homes to op size a b (exits.Choice when chosen other) lines
     by true is e =
         let x = and_parts (when == to) (may_test site codes homes to op size a b) is in
-        let y = all_four (nat_lt to 6 && is_direct homes to op size a b) (length codes == 0) (not (may_trap site)) (are_short_rules site.behind) x.1 in
-        let first = and_parts (nat_lt to 6) (is_direct homes to op size a b) y.0 in
+        let y = all_four (nat_lt to 6 && is_direct homes to op size a b && is_none (made homes to op size a b)) (length codes == 0) (not (may_trap site)) (are_short_rules site.behind) x.1 in
+        let first = all_three (nat_lt to 6) (is_direct homes to op size a b) (is_none (made homes to op size a b)) y.0 in
         let m = mapped (BranchOp × ℕ) (List Line) (λ (test : BranchOp × ℕ). map plain (waiting_words homes.waiting) ++ choice_lines test chosen other) (test_of homes op size a b) lines e in
         record {
           chosen = chosen;
@@ -220,6 +246,7 @@ tested site codes homes to op size a b (exits.Choice when chosen other) lines e 
           is = ap (λ n. exits.Choice n chosen other) (eqb-true when to x.0);
           own = ltb-true to 6 first.0;
           direct = first.1;
+          unmade = nothing (made homes to op size a b) first.2;
           no_codes = none codes y.1;
           no_trap = not-true (may_trap site) y.2;
           short = y.3;
@@ -302,7 +329,7 @@ module _ (p : Placement) (site : Site) (codes : List AlphaInstr) (setting : Sett
       whole = put begun (21 + to) (computed op size (value_at begun (placed homes a)) (value_at begun (placed homes b)) (begun (21 + to)))
 
       d' : Direct p site behind homes_then after whole
-      d' = let own = s.own in given p site known homes standing begun d to op size a b ok (record { low = omega arith; high = omega arith }) a_is b_is ready s.direct f.narrow f.unselected f.uncopied f.unmade
+      d' = let own = s.own in given p site known homes standing begun d to op size a b ok (record { low = omega arith; high = omega arith }) a_is b_is ready s.direct f.narrow f.unselected f.uncopied s.unmade
 
       onward : Departure
       onward = Ended (Finish (with_pc (if after.temps to == 0 then s.other else s.chosen) after.state))
@@ -329,7 +356,7 @@ module _ (p : Placement) (site : Site) (codes : List AlphaInstr) (setting : Sett
 
       held_there : whole (21 + to) ≡ after.temps to
       held_there = let x = all_three (holds behind to) (not (to == 3)) (not (to == 4)) (subst (λ exit. exit_fits behind exit ≡ true) s.is exit_ok) in
-          exit_value p site (hidden homes_then behind) after whole to s.own (rw (ap is_something (held_own homes_then behind to f.homeless) ∙ x.0, x.1, x.2) refl) coded
+          exit_value p site (hidden homes_then behind) after whole to s.own (rw (ap is_something (held_own homes_then behind to (f.homeless s.unmade)) ∙ x.0, x.1, x.2) refl) coded
 
       same : taken s.test.0 (begun s.test.1) ≡ (after.temps to == 0)
       same =

@@ -513,9 +513,14 @@ byte_test homes And a b = bit_test homes a b
 byte_test homes Move a b = code_test a
 byte_test homes op a b = None
 
+abbrev pub long_test : Homes → MicroOp → (a b : Arg) → Option (BranchOp × ℕ)
+long_test homes And a b = bit_test homes a b
+long_test homes op a b = None
+
 -- a branch that is taken just where the computation gives 0, and its register
 abbrev pub test_of : Homes → MicroOp → Size → (a b : Arg) → Option (BranchOp × ℕ)
 test_of homes op Byte a b = byte_test homes op a b
+test_of homes op Long a b = long_test homes op a b
 test_of homes op size a b = None
 
 abbrev pub choice_lines : BranchOp × ℕ → (taken other : ℕ) → List Line
@@ -524,7 +529,8 @@ choice_lines test taken other = plain (Branch test.0 test.1 (pos 3)) ∷ (exit_l
 -- no word leaves a code, and nothing traps
 abbrev pub may_test : Site → (codes : List AlphaInstr) → Homes → (to : ℕ) → MicroOp → Size → (a b : Arg) → Bool
 may_test site codes homes to op size a b =
-    nat_lt to 6 && is_direct homes to op size a b && length codes == 0 && not (may_trap site) && are_short_rules site.behind
+    nat_lt to 6 && is_direct homes to op size a b && is_none (made homes to op size a b) && length codes == 0 && not (may_trap site)
+    && are_short_rules site.behind
 
 abbrev pub tested_exit : Site → (codes : List AlphaInstr) → Homes → (to : ℕ) → MicroOp → Size → (a b : Arg) → Exit → Option (List Line)
 tested_exit site codes homes to op size a b (Choice when taken other) =

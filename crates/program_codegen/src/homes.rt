@@ -275,7 +275,14 @@ fn made_size(op: MicroOp, size: Size) -> Size
 }
 
 /// A word whose result in temporary 2 is extended with its sign.
-fn made(homes: Homes, to: u8, op: MicroOp, size: Size, a: Arg, b: Arg) -> Option<AlphaInstr>
+pub(crate) fn made(
+    homes: Homes,
+    to: u8,
+    op: MicroOp,
+    size: Size,
+    a: Arg,
+    b: Arg,
+) -> Option<AlphaInstr>
     ensures { result ≡ made homes to op size a b }
 {
     if to == RESULT {

@@ -5,7 +5,7 @@ ghost use Rattle.program_codegen.specs.Homes.{bit_register, bit_test, code_test,
 ghost use Rattle.program_codegen.specs.Programs.{IsRanged, RangedToLeave};
 
 use crate::direct::{are_short_rules, exit_of};
-use crate::homes::{Homes, home_of, is_direct, push_waiting};
+use crate::homes::{Homes, home_of, is_direct, made, push_waiting};
 use crate::leaving::may_trap;
 use crate::lines::{Line, holder, plain, push_exit};
 use crate::points::Site;
@@ -70,7 +70,7 @@ fn test_of(homes: Homes, op: MicroOp, size: Size, a: Arg, b: Arg) -> Option<Test
     ensures { result ≡ test_of homes op size a b }
 {
     match (op, size) {
-        (MicroOp::And, Size::Byte) => bit_test(homes, a, b),
+        (MicroOp::And, Size::Byte | Size::Long) => bit_test(homes, a, b),
         (MicroOp::Move, Size::Byte) => code_test(a),
         _ => None,
     }
@@ -101,6 +101,7 @@ fn may_test(
 {
     to < TEMPORARIES_HELD
         && is_direct(homes, to, op, size, a, b)
+        && made(homes, to, op, size, a, b).is_none()
         && codes.is_empty()
         && !may_trap(site)
         && are_short_rules(site.behind)
