@@ -1,11 +1,12 @@
 -- Computations of a program whose operands are used where they stand.
-use Rattle.std.proofs.Common.{◌≡◌, ℕ, ◌+◌, ◌-◌, ◌%◌, ◌^◌, ◌<◌, ◌≤◌, refl, sym, ap, ap₂, ◌∙◌, subst, arith, List, [], ◌∷◌, ◌++◌, length, map, Option, Some, None, Bool, true, false, lit<, lit≤, eqb-true}
-use Rattle.std.specs.Prelude.{◌==◌, ◌&&◌, ◌||◌, bit_and, bit_or, bit_xor, is_some, not, nat_lt, option_map, if◌then◌else◌}
+use Rattle.std.proofs.Common.{inl, inr, ◌≡◌, ℕ, ◌+◌, ◌-◌, ◌%◌, ◌^◌, ◌<◌, ◌≤◌, refl, sym, ap, ap₂, ◌∙◌, subst, arith, List, [], ◌∷◌, ◌++◌, length, map, Option, Some, None, Bool, true, false, lit<, lit≤, eqb-true}
+use Rattle.std.specs.Prelude.{◌⊎◌, ◌==◌, ◌&&◌, ◌||◌, bit_and, bit_or, bit_xor, is_some, not, nat_lt, option_map, if◌then◌else◌}
 use Rattle.std.specs.List.{list_all}
 use Rattle.std.proofs.Math.Nat.{mod-eq_of_lt}
 use Rattle.std.proofs.lemmas.Bool.Decides.{nat_tests}
 use Rattle.std.proofs.lemmas.Bool.{and_parts, ltb-true, not-true}
 use Rattle.std.proofs.Math.Nat.{mod-eq_of_lt}
+use Rattle.std.specs.Int.Bits.{or_zero_l}
 use Rattle.std.proofs.lemmas.Nat.{and_le_l, and_mod}
 use Rattle.std.proofs.lemmas.Option.{same_Some}
 use Rattle.vt_words.proofs.Longwords.{extended_again, extended_fits, extended_low}
@@ -45,7 +46,7 @@ use Rattle.block_law.proofs.Rules.{Always, operates, roomy}
 use Rattle.program_codegen.specs.declared.homes.Homes.{Homes}
 use Rattle.program_codegen.specs.declared.lines.Line.{Line}
 use Rattle.program_codegen.specs.declared.points.Site.{Site}
-use Rattle.program_codegen.specs.Homes.{AreHomes, IsHome, code_by, compared, comparison, copied, direct_code, extended_first, extended_register, extended_second, home_by, home_of, is_copying, is_direct, is_shared, is_short_constant, joined_word, long_operation, made, made_size, new_home, one_word, placed, stands_in, with_home}
+use Rattle.program_codegen.specs.Homes.{AreHomes, IsHome, code_by, compared, comparison, copied, direct_code, extended_first, extended_register, extended_second, home_by, home_of, is_copying, is_direct, is_shared, is_short_constant, joined_word, literal_word, long_operation, made, made_size, new_home, one_word, placed, stands_in, with_home}
 use Rattle.program_codegen.specs.Programs.{rule_of}
 use Rattle.program_codegen.specs.Words.{holder, plain}
 use Rattle.program_codegen.proofs.Computing.{argument_is, computation_runs, computed_holds, kept_apart, temp_apart, zero_apart}
@@ -176,12 +177,44 @@ joined_long homes found Byte a b to word e = absurd (cc e)
 joined_long homes found Word a b to word e = absurd (cc e)
 joined_long homes found Quad a b to word e = absurd (cc e)
 
-pub made_word : (homes : Homes) (to : ℕ) (op : MicroOp) (size : Size) (a b : Arg) (word : AlphaInstr) → made homes to op size a b ≡ Some word → (to ≡ 2) × (made_size op size ≡ Long) × Joined homes (long_operation op) a b 23 word
-made_word homes to op size a b word e = by (to == 2) refl e
+-- a constant's word
+pub record Literally (to : ℕ) (op : MicroOp) (size : Size) (a : Arg) (word : AlphaInstr) : Type 0 where
+  pub few : nat_lt to 3 ≡ true
+  pub copies : is_copying op size ≡ true
+  pub value : ℕ
+  pub constant : a ≡ arguments.Const value
+  pub small : value < 256
+  pub is : word ≡ Operate row.Bis 31 (seconds.Literal value) (21 + to)
+
+pub made_word : (homes : Homes) (to : ℕ) (op : MicroOp) (size : Size) (a b : Arg) (word : AlphaInstr) → made homes to op size a b ≡ Some word
+    → Literally to op size a word ⊎ ((to ≡ 2) × (made_size op size ≡ Long) × Joined homes (long_operation op) a b 23 word)
+made_word homes to op size a b word e = first (nat_lt to 3 && is_copying op size) refl e
   where
     by : (c : Bool) → (to == 2) ≡ c → (if c then one_word (long_operation op) homes (made_size op size) a b 23 else None) ≡ Some word → (to ≡ 2) × (made_size op size ≡ Long) × Joined homes (long_operation op) a b 23 word
     by true is e = let s = joined_long homes (long_operation op) (made_size op size) a b 23 word e in (eqb-true to 2 is, s.0, s.1)
     by false is e = absurd (cc e)
+
+    literal : (a : Arg) → nat_lt to 3 ≡ true → is_copying op size ≡ true → literal_word (21 + to) a ≡ Some word → Literally to op size a word
+    literal (arguments.Const value) few copies e = small (nat_lt value 256) refl e
+      where
+        small : (c : Bool) → nat_lt value 256 ≡ c → (if c then Some (Operate row.Bis 31 (seconds.Literal value) (21 + to)) else None) ≡ Some word → Literally to op size (arguments.Const value) word
+        small true lt e = record { few = few; copies = copies; value = value; constant = refl; small = ltb-true value 256 lt; is = sym (same_Some (Operate row.Bis 31 (seconds.Literal value) (21 + to)) word e) }
+        small false lt e = absurd (cc e)
+    literal (arguments.Temp temp) few copies e = absurd (cc e)
+    literal (arguments.Register number) few copies e = absurd (cc e)
+    literal (arguments.Flag flag) few copies e = absurd (cc e)
+
+    first : (c : Bool) → (nat_lt to 3 && is_copying op size) ≡ c → (if c then literal_word (21 + to) a else if to == 2 then one_word (long_operation op) homes (made_size op size) a b 23 else None) ≡ Some word
+        → Literally to op size a word ⊎ ((to ≡ 2) × (made_size op size ≡ Long) × Joined homes (long_operation op) a b 23 word)
+    first true is e = let x = and_parts (nat_lt to 3) (is_copying op size) is in inl (literal a x.0 x.1 e)
+    first false is e = inr (by (to == 2) refl e)
+
+pub made_operates : (homes : Homes) (to : ℕ) (op : MicroOp) (size : Size) (a b : Arg) (word : AlphaInstr) → made homes to op size a b ≡ Some word → is_operate word ≡ true
+made_operates homes to op size a b word e = by (made_word homes to op size a b word e)
+  where
+    by : Literally to op size a word ⊎ ((to ≡ 2) × (made_size op size ≡ Long) × Joined homes (long_operation op) a b 23 word) → is_operate word ≡ true
+    by (inl c) = subst (λ (w : AlphaInstr). is_operate w ≡ true) (sym c.is) refl
+    by (inr m) = subst (λ (w : AlphaInstr). is_operate w ≡ true) (sym m.2.is) refl
 
 pub no_quad : (quad : Bool) (q : Option AlphaInstr) → (not quad || is_some q) ≡ true → q ≡ None → quad ≡ false
 no_quad false q either none = refl
@@ -190,7 +223,7 @@ no_quad true q either none = absurd (cc (sym either ∙ ap is_some none))
 pub compared_word : (homes : Homes) (to : ℕ) (op : MicroOp) (size : Size) (a b : Arg) (word : AlphaInstr) → compared homes to op size a b ≡ Some word → (size ≡ Long) × Joined homes (comparison op) a b (21 + to) word
 compared_word homes to op size a b word e = joined_long homes (comparison op) size a b (21 + to) word e
 
-copying : (op : MicroOp) (size : Size) → is_copying op size ≡ true → (is_moved op ≡ true) × (size ≡ Long)
+pub copying : (op : MicroOp) (size : Size) → is_copying op size ≡ true → (is_moved op ≡ true) × (size ≡ Long)
 copying op Long e = (e, refl)
 copying op Byte e = absurd (cc e)
 copying op Word e = absurd (cc e)
@@ -367,9 +400,8 @@ module _ (p : Placement) (site : Site) (known : Known) (homes : Homes) (standing
 
   -- one word
   makes : (to : ℕ) (op : MicroOp) (size : Size) (a b : Arg) (word : AlphaInstr) → IsArgument a → argument_fits known a ≡ true → IsArgument b → argument_fits known b ≡ true
-      → copied homes to op size a ≡ None → made homes to op size a b ≡ Some word → is_shared homes to ≡ false → After to op size a b (effect word regs)
-  makes to op size a b word is ok is' ok' none e alone =
-      let m = made_word homes to op size a b word e in
+      → copied homes to op size a ≡ None → made homes to op size a b ≡ Some word → (to ≡ 2) × (made_size op size ≡ Long) × Joined homes (long_operation op) a b 23 word → is_shared homes to ≡ false → After to op size a b (effect word regs)
+  makes to op size a b word is ok is' ok' none e m alone =
       let j = m.2 in
       subst (λ (w : AlphaInstr). After to op size a b (effect w regs)) (sym j.is) (by j.operation j.first j.second m.0 m.1 j.is_operation j.is_first j.is_second)
     where
@@ -402,6 +434,48 @@ module _ (p : Placement) (site : Site) (known : Known) (homes : Homes) (standing
           (lit< tt, λ not_so. lit≤ tt)
           (λ q same. subst (λ n. (computed op size (value a) (value b) (standing.temps to) ≡ put regs 23 y n % 2 ^ 32) × IsExtended (put regs 23 y n)) (same_Some 23 q same) (result, g.extended))
           (λ temp q other home. put_other regs 23 y q (subst (λ n. (q == (21 + n)) ≡ false) two (not_shared homes to alone temp q other home))) d)
+
+  -- a constant
+  loads : (to : ℕ) (op : MicroOp) (size : Size) (a b : Arg) (word : AlphaInstr) → copied homes to op size a ≡ None → made homes to op size a b ≡ Some word → Literally to op size a word → is_shared homes to ≡ false → After to op size a b (effect word regs)
+  loads to op size a b word none e c alone =
+      subst (λ (w : AlphaInstr). After to op size a b (effect w regs)) (sym c.is)
+      (subst (λ o. Direct p site (behind_write to (holding_of (leaves_longword (Compute to op size a b))) known) (with_home to o homes) (with_value to (computed op size (value a) (value b) (standing.temps to)) standing) (put regs (21 + to) (bit_or (regs 31) c.value)))
+      (sym (ap (λ o. home_by o (made homes to op size a b) (is_short_constant to op size a) to) none ∙ ap (λ o. home_by None o (is_short_constant to op size a) to) e))
+      (written p site known homes (Some (21 + to)) (holding_of (leaves_longword (Compute to op size a b))) to (computed op size (value a) (value b) (standing.temps to)) standing regs (put regs (21 + to) (bit_or (regs 31) c.value))
+      (λ n kept. put_other regs (21 + to) (bit_or (regs 31) c.value) n (own_kept n few kept)) (put_other regs (21 + to) (bit_or (regs 31) c.value) 31 (zero_apart_to few))
+      (λ temp lt other. put_other regs (21 + to) (bit_or (regs 31) c.value) (21 + temp) (apart temp other))
+      (λ free lt. let some = home_self to (Some (21 + to)) homes c.few in absurd (cc (sym free ∙ some)))
+      (omega (arith, few), λ not_so. omega arith)
+      (λ q same. subst (λ n. (computed op size (value a) (value b) (standing.temps to) ≡ put regs (21 + to) (bit_or (regs 31) c.value) n % 2 ^ 32) × IsExtended (put regs (21 + to) (bit_or (regs 31) c.value) n)) (same_Some (21 + to) q same)
+      (is_value ∙ (sym low ∙ ap (λ n. n % 2 ^ 32) (sym there)), subst IsExtended (sym there) (extended_small c.value (let lt = c.small in omega arith))))
+      (λ temp q other home. put_other regs (21 + to) (bit_or (regs 31) c.value) q (not_shared homes to alone temp q other home)) d))
+    where
+      few : to < 3
+      few = ltb-true to 3 c.few
+
+      own_kept : (n : ℕ) → to < 3 → is_kept n ≡ true → (n == (21 + to)) ≡ false
+      own_kept n lt e = grind (arith, nat_tests, e)
+
+      zero_apart_to : to < 3 → (31 == (21 + to)) ≡ false
+      zero_apart_to lt = grind (arith, nat_tests)
+
+      apart : (temp : ℕ) → (temp == to) ≡ false → ((21 + temp) == (21 + to)) ≡ false
+      apart temp e = grind (arith, nat_tests, e)
+
+      there : put regs (21 + to) (bit_or (regs 31) c.value) (21 + to) ≡ c.value
+      there = put_same regs (21 + to) (bit_or (regs 31) c.value) (last few) ∙ (ap (λ n. bit_or n c.value) d.holds.form.zero ∙ or_zero_l c.value)
+        where
+          last : to < 3 → ((21 + to) == 31) ≡ false
+          last lt = grind (arith, nat_tests)
+
+      low : c.value % 2 ^ 32 ≡ c.value
+      low = let lt = c.small in mod-eq_of_lt (omega arith)
+
+      is_value : computed op size (value a) (value b) (standing.temps to) ≡ c.value
+      is_value =
+          let k = copying op size c.copies in
+          ap (λ a. computed op size (value a) (value b) (standing.temps to)) c.constant
+          ∙ (ap (λ size. computed op size c.value (value b) (standing.temps to)) k.1 ∙ (moved_value op c.value (value b) (standing.temps to) k.0 ∙ low))
 
   -- a comparison
   compares : (to : ℕ) (op : MicroOp) (size : Size) (a b : Arg) (word : AlphaInstr) → IsTarget (holder to) → IsArgument a → argument_fits known a ≡ true → IsArgument b → argument_fits known b ≡ true
@@ -590,9 +664,13 @@ module _ (p : Placement) (site : Site) (known : Known) (homes : Homes) (standing
   makes_then to op size a b word ok a_is b_is direct none e =
       let x = all_four (nat_lt to 64) (argument_fits known a) (is_unary op || argument_fits known b) (not (is_select op) || holds known to) ok in
       let y = all_three (not (is_quad size) || is_some (made homes to op size a b)) (not (is_select op)) (not (is_shared homes to)) direct in
-      let m = made_word homes to op size a b word e in
-      let two = binary op m.2.operation m.2.is_operation in
-      makes to op size a b word a_is x.1 (b_is two) (right (is_unary op) (argument_fits known b) two x.2) none e (not-true (is_shared homes to) y.2)
+      by (made_word homes to op size a b word e) (not-true (is_shared homes to) y.2) x.1 x.2
+    where
+      by : Literally to op size a word ⊎ ((to ≡ 2) × (made_size op size ≡ Long) × Joined homes (long_operation op) a b 23 word) → is_shared homes to ≡ false → argument_fits known a ≡ true → (is_unary op || argument_fits known b) ≡ true → After to op size a b (effect word regs)
+      by (inl c) alone a_fits b_fits = loads to op size a b word none e c alone
+      by (inr m) alone a_fits b_fits =
+          let two = binary op m.2.operation m.2.is_operation in
+          makes to op size a b word a_is a_fits (b_is two) (right (is_unary op) (argument_fits known b) two b_fits) none e m alone
 
   -- the words of a computation, and then what comes behind
   pub computes : (need pc to : ℕ) (op : MicroOp) (size : Size) (a b : Arg) (rest : List Line) (t : Tree)
@@ -625,15 +703,13 @@ module _ (p : Placement) (site : Site) (known : Known) (homes : Homes) (standing
           roomy p None need (0 + need) (at_place regs pc) t (omega arith)
           (subst (λ n. Always p None need (at_place regs n) t) here (behind regs (copies to op size a b r a_is a_fits e)))
       by ready_a second a_fits narrow unselected alone None e (Some word) f u h w behind =
-          let m = made_word homes to op size a b word f in
-          let two = binary op m.2.operation m.2.is_operation in
-          let s = second two in
           let count = row_length p site.behind (word ∷ []) rest in
           let high = w.high in
+          let operate = made_operates homes to op size a b word f in
           operates p None need (word ∷ []) regs pc t (row_words p site.behind pc (word ∷ []) rest w)
-          (subst (λ (i : AlphaInstr). list_all is_operate (i ∷ []) ≡ true) (sym m.2.is) refl) w.low (omega arith)
+          (ap (λ c. c && true) operate) w.low (omega arith)
           (λ n lt le. is_inside p site.behind pc n (map plain (word ∷ []) ++ rest) w lt (omega arith))
-          (behind (effect word regs) (makes to op size a b word a_is a_fits s.0 s.1 e f alone))
+          (behind (effect word regs) (makes_then to op size a b word ok a_is b_is direct e f))
       by ready_a second a_fits narrow unselected alone None e None f (Some word) h w behind =
           let m = compared_word homes to op size a b word h in
           let two = two_compared op m.1.operation m.1.is_operation in

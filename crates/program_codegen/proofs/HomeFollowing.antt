@@ -36,7 +36,7 @@ use Rattle.program_codegen.specs.Programs.{AllHaveWords, ReadsReady}
 use Rattle.program_codegen.specs.Words.{departing, plain, trap_lines}
 use Rattle.program_codegen.proofs.Committing.{sets_codes}
 use Rattle.program_codegen.proofs.Following.{departs, opened}
-use Rattle.program_codegen.proofs.HomeComputing.{computes, copies_then, made_word, makes_then}
+use Rattle.program_codegen.proofs.HomeComputing.{computes, copies_then, made_operates, makes_then}
 use Rattle.program_codegen.proofs.HomeEnding.{CommitFits, committed, end_follows}
 use Rattle.program_codegen.proofs.HomeHolding.{Direct, committing, hidden, written}
 use Rattle.program_codegen.proofs.HomeSomes.{chained, first_is, mapped}
@@ -335,14 +335,14 @@ module _ (p : Placement) (site : Site) (codes : List AlphaInstr) (setting : Sett
           (subst (λ (o : Option AlphaInstr). Direct p site after homes_then (with_value to value standing) (effects (waiting_words o) regs)) (sym (waits_same to (new_home homes to op size a b) homes)) d') agree
       by_words rest fits onward out direct None e (Some word) f is w =
           let has = have.0 out in
-          let m = made_word homes to op size a b word f in
+          let operate = made_operates homes to op size a b word f in
           let d' = makes_then p site known homes standing begun d to op size a b word fits has.1 has.2 direct e f in
           let some = direct_some site codes program (record homes_then { waiting = Some word }) rest is in
           let count = row_length p site.behind (waiting_words homes.waiting) rest in
           roomy p None (length (waiting_words homes.waiting) + length rest) (length (map plain (waiting_words homes.waiting) ++ rest)) (at_place regs pc) _ (omega arith)
           (first (length rest) rest _ some w
           (onward (with_value to value standing) begun (pc + length (waiting_words homes.waiting)) (record homes_then { waiting = Some word }) is (row_rest p site.behind pc (waiting_words homes.waiting) rest w)
-          (subst (λ (word : AlphaInstr). list_all is_operate (word ∷ []) ≡ true) (sym m.2.is) refl)
+          (ap (λ c. c && true) operate)
           (record { holds = d'.holds; are = d'.are; values = d'.values }) agree))
       by_words rest fits onward out direct None e None f is w =
           let has = have.0 out in

@@ -29,7 +29,7 @@ use Rattle.micro_ops.specs.declared.program.Exit.TheVariants as exits
 use Rattle.micro_ops.specs.declared.program.Micro.{Micro}
 use Rattle.micro_ops.specs.declared.program.Micro.TheVariants.{Compute, Probe, Refuse, Read, Write, Locked, Commit, Codes, SetPsw, Leave}
 use Rattle.micro_ops.specs.declared.program.MicroOp.{MicroOp}
-use Rattle.micro_ops.specs.declared.program.MicroOp.TheVariants.{Add, Sub, And, Or, Xor, AndNot, Equal, Less, LessUnsigned}
+use Rattle.micro_ops.specs.declared.program.MicroOp.TheVariants.{Move, ZeroExtend, Add, Sub, And, Or, Xor, AndNot, Equal, Less, LessUnsigned}
 use Rattle.micro_ops.specs.Fits.{codes_fit, commit_fits, computation_fits, exit_fits, holding_of, is_ended, sources_fit, step, walk}
 use Rattle.micro_ops.specs.Known.{behind_commit, behind_write}
 use Rattle.micro_ops.specs.LeftOut.{is_left_out, is_low, is_used}
@@ -37,21 +37,21 @@ use Rattle.micro_ops.specs.Uses.{is_quad, is_select, is_unary, leaves_longword}
 use Rattle.micro_ops.specs.WordCounts.{argument_words, by_size, has_literal, is_literal, operation_words, program_words, second_words, words_of as count_of}
 use Rattle.compute_sequences.specs.Promises.{changes_only}
 use Rattle.compute_sequences.specs.Registers.{IsArgument, IsTarget, may_change}
-use Rattle.compute_sequences.specs.Words.{compute_code, is_constant, is_short}
+use Rattle.compute_sequences.specs.Words.{compute_code, is_constant, is_moved, is_short}
 use Rattle.compute_sequences.proofs.WholeLaws.{computed_encodable, computed_length, computed_writes}
 use Rattle.block_law.specs.CodeWords.{may_be_written}
-use Rattle.block_law.specs.Tidy.{may_fault, register_written, writes_register}
+use Rattle.block_law.specs.Tidy.{is_kept, may_fault, register_written, writes_register}
 use Rattle.program_codegen.specs.declared.homes.Homes.{Homes}
 use Rattle.program_codegen.specs.declared.lines.Line.{Line}
 use Rattle.program_codegen.specs.declared.points.Site.{Site}
-use Rattle.program_codegen.specs.Homes.{AreHomes, IsHome, are_short_rules, code_by, commit_stays, compared, comparison, copied, direct_code, direct_lines, direct_step, end_lines, exit_behind, exit_stays, extended_first, extended_second, home_by, home_of, is_copying, is_shared, long_operation, made, may_end, moved_words, new_home, placed, standing_in, with_home, end_words, step_by, waiting_words, choice_lines, next_exit, tested_at, tested_exit, is_short_constant}
+use Rattle.program_codegen.specs.Homes.{AreHomes, IsHome, are_short_rules, code_by, commit_stays, compared, comparison, copied, direct_code, direct_lines, direct_step, end_lines, exit_behind, exit_stays, extended_first, extended_second, home_by, home_of, is_copying, is_shared, long_operation, made, may_end, moved_words, new_home, placed, standing_in, with_home, end_words, step_by, waiting_words, choice_lines, next_exit, tested_at, tested_exit, is_short_constant, made_size}
 use Rattle.program_codegen.specs.Programs.{AllHaveWords, IsExit}
 use Rattle.program_codegen.specs.Words.{departing, exit_lines, plain, trap_lines, words_of}
 use Rattle.program_codegen.proofs.Coded.{fine_operates}
 use Rattle.program_codegen.proofs.Endings.{above_codes, codes_local, codes_quiet, departing_each, departing_goes, departing_short, departing_spares, one_word, or_nothing, traps_silent}
 use Rattle.program_codegen.proofs.Following.{opened}
 use Rattle.program_codegen.proofs.Fronts.{Shape, any_neither, quiet_kept, row_targets, row_words_are, silent_front, spares_append, targets, targets_append, words_append}
-use Rattle.program_codegen.proofs.HomeComputing.{compared_word, made_word, no_quad}
+use Rattle.program_codegen.proofs.HomeComputing.{compared_word, made_word, no_quad, Joined, Literally, copying, made_operates}
 use Rattle.program_codegen.proofs.HomeFollowing.{Stepped, ends_with, stepped, with_exit, row_apart, waits_same}
 use Rattle.program_codegen.proofs.HomeSomes.{chained, first_is, mapped}
 use Rattle.program_codegen.proofs.HomeTesting.{Tested, facts, tested}
@@ -65,12 +65,19 @@ use Rattle.program_codegen.proofs.Shapes.{each_append, exit_each, is_local, plai
 use Rattle.program_codegen.proofs.Walk.{plain_length}
 
 -- ---- homes
+made_few : (homes : Homes) (to : ℕ) (op : MicroOp) (size : Size) (a b : Arg) (word : AlphaInstr) → made homes to op size a b ≡ Some word → to < 3
+made_few homes to op size a b word e = by (made_word homes to op size a b word e)
+  where
+    by : Literally to op size a word ⊎ ((to ≡ 2) × (made_size op size ≡ Long) × Joined homes (long_operation op) a b 23 word) → to < 3
+    by (inl c) = ltb-true to 3 c.few
+    by (inr m) = let two = m.0 in omega arith
+
 pub new_home_is : (homes : Homes) → AreHomes homes → (to : ℕ) (op : MicroOp) (size : Size) (a b : Arg) → IsArgument a → IsHome (new_home homes to op size a b)
 new_home_is homes are to op size a b is = by (copied homes to op size a) refl (made homes to op size a b) refl (is_short_constant to op size a) refl
   where
     by : (o : Option ℕ) → copied homes to op size a ≡ o → (q : Option AlphaInstr) → made homes to op size a b ≡ q → (c : Bool) → is_short_constant to op size a ≡ c → IsHome (home_by o q c to)
     by (Some r) e q f c g = copied_home homes are to op size a r is e
-    by None e (Some word) f c g = let two = (made_word homes to op size a b word f).0 in (omega arith, λ not_so. omega arith)
+    by None e (Some word) f c g = let few = made_few homes to op size a b word f in (omega arith, λ not_so. omega arith)
     by None e None f true g =
         let few = ltb-true to 3 (all_three (nat_lt to 3) (is_copying op size) (is_constant (is_short Long) a) g).0 in
         (omega arith, λ not_so. omega arith)
@@ -198,17 +205,42 @@ module _ (homes : Homes) (are : AreHomes homes) where
     where
       by : (o : Option ℕ) → copied homes to op size a ≡ o → (q : Option AlphaInstr) → made homes to op size a b ≡ q → (u : Option AlphaInstr) → compared homes to op size a b ≡ u → Words (count_of (Compute to op size a b)) (code_by o q u (compute_code op size (placed homes a) (placed homes b) (21 + to)))
       by (Some r) e q f u h = record { encodable = All-nil IsEncodable; silent = refl; few = omega arith }
-      by None e (Some word) f u h =
-          let m = made_word homes to op size a b word f in
-          let j = m.2 in
-          let x_fits = first_fits a j.first a_is j.is_first in
-          let word_counts = made_words op size j.operation j.is_operation in
-          let count : 1 ≤ count_of (Compute to op size a b) = omega arith in
-          record {
-            encodable = subst (λ (w : AlphaInstr). All IsEncodable (w ∷ [])) (sym j.is) (one_word (Operate j.operation j.first j.second 23) (encodes op j.operation j.first j.second j.is_operation (omega arith) (second_fits b j.second (b_is (binary op j.operation j.is_operation)) j.is_second)));
-            silent = subst (λ (w : AlphaInstr). list_all is_silent (w ∷ []) ≡ true) (sym j.is) refl;
-            few = count;
-          }
+      by None e (Some word) f u h = of (made_word homes to op size a b word f)
+        where
+          some_words : (op : MicroOp) (size : Size) → is_copying op size ≡ true → 1 ≤ operation_words op size
+          some_words op size copies = moved (copying op size copies).0 (copying op size copies).1
+            where
+              moved : is_moved op ≡ true → size ≡ Long → 1 ≤ operation_words op size
+              moved is long = subst (λ size. 1 ≤ operation_words op size) (sym long) (at op is)
+                where
+                  at : (op : MicroOp) → is_moved op ≡ true → 1 ≤ operation_words op Long
+                  at Move is = lit≤ tt
+                  at ZeroExtend is = lit≤ tt
+                  at op is = absurd (cc is)
+
+          of : Literally to op size a word ⊎ ((to ≡ 2) × (made_size op size ≡ Long) × Joined homes (long_operation op) a b 23 word) → Words (count_of (Compute to op size a b)) (word ∷ [])
+          of (inl c) =
+              let word_counts = some_words op size c.copies in
+              let few = ltb-true to 3 c.few in
+              let small = c.small in
+              record {
+                encodable = subst (λ (w : AlphaInstr). All IsEncodable (w ∷ [])) (sym c.is) (one_word (Operate row.Bis 31 (seconds.Literal c.value) (21 + to)) (lit< tt, small, omega arith));
+                silent = subst (λ (w : AlphaInstr). list_all is_silent (w ∷ []) ≡ true) (sym c.is) (quiet few);
+                few = omega arith;
+              }
+            where
+              quiet : to < 3 → (not (is_kept (21 + to)) && true) ≡ true
+              quiet lt = grind (arith, nat_tests)
+          of (inr m) =
+              let j = m.2 in
+              let x_fits = first_fits a j.first a_is j.is_first in
+              let word_counts = made_words op size j.operation j.is_operation in
+              let count : 1 ≤ count_of (Compute to op size a b) = omega arith in
+              record {
+                encodable = subst (λ (w : AlphaInstr). All IsEncodable (w ∷ [])) (sym j.is) (one_word (Operate j.operation j.first j.second 23) (encodes op j.operation j.first j.second j.is_operation (omega arith) (second_fits b j.second (b_is (binary op j.operation j.is_operation)) j.is_second)));
+                silent = subst (λ (w : AlphaInstr). list_all is_silent (w ∷ []) ≡ true) (sym j.is) refl;
+                few = count;
+              }
       by None e None f (Some word) h =
           let m = compared_word homes to op size a b word h in
           let j = m.1 in
@@ -381,11 +413,11 @@ module _ (site : Site) (codes : List AlphaInstr) (after_fits : site.after < 2 ^ 
           let w = direct_words homes are to op size a b target a_is b_is either in
           let code : direct_code homes to op size a b ≡ word ∷ [] = ap (λ (o : Option ℕ). code_by o (made homes to op size a b) (compared homes to op size a b) (compute_code op size (placed homes a) (placed homes b) (21 + to))) e
           ∙ ap (λ (o : Option AlphaInstr). code_by None o (compared homes to op size a b) (compute_code op size (placed homes a) (placed homes b) (21 + to))) f in
-          let m = made_word homes to op size a b word f in
+          let operate = made_operates homes to op size a b word f in
           let waiting : Waiting (record homes_then { waiting = Some word }) = record {
             encodable = subst (All IsEncodable) code w.encodable;
             silent = subst (λ words. list_all is_silent words ≡ true) code w.silent;
-            operate = subst (λ (word : AlphaInstr). list_all is_operate (word ∷ []) ≡ true) (sym m.2.is) refl;
+            operate = ap (λ c. c && true) operate;
           } in
           let behind = shape (record homes_then { waiting = Some word }) (are'.0, are'.1, are'.2) waiting is in
           let one = ap (λ (words : List AlphaInstr). length words) code in

@@ -149,8 +149,15 @@ is_logical op = false
 abbrev pub made_size : MicroOp → Size → Size
 made_size op size = if is_quad size && is_logical op then Long else size
 
+-- a constant that is a literal has one word, too
+abbrev pub literal_word : (to : ℕ) → Arg → Option AlphaInstr
+literal_word to (arguments.Const value) = if nat_lt value 256 then Some (Operate row.Bis ZERO (seconds.Literal value) to) else None
+literal_word to arg = None
+
 abbrev pub made : Homes → (to : ℕ) → MicroOp → Size → (a b : Arg) → Option AlphaInstr
-made homes to op size a b = if to == 2 then one_word (long_operation op) homes (made_size op size) a b (holder 2) else None
+made homes to op size a b =
+    if nat_lt to 3 && is_copying op size then literal_word (holder to) a
+    else if to == 2 then one_word (long_operation op) homes (made_size op size) a b (holder 2) else None
 
 abbrev pub compared : Homes → (to : ℕ) → MicroOp → Size → (a b : Arg) → Option AlphaInstr
 compared homes to op size a b = one_word (comparison op) homes size a b (holder to)

@@ -2,12 +2,12 @@
 ghost use Rattle.std.specs.Prelude.{◌≡◌, ◌++◌, ◌≤◌, OnOk, IfOk, false, map};
 ghost use Rattle.compute_sequences.specs.Registers.{IsArgument, IsTarget};
 ghost use Rattle.micro_ops.specs.Uses.{is_unary};
-ghost use Rattle.program_codegen.specs.Homes.{AreHomes, home_of, with_home, home_at, stands_in, is_shared, argument_in, standing_in, placed, extended_register, extended_second, extended_first, long_operation, comparison, joined_word, one_word, is_copying, copied, is_logical, made_size, made, compared, new_home, direct_code, is_direct, waiting_words, direct_by, is_short_constant};
+ghost use Rattle.program_codegen.specs.Homes.{AreHomes, home_of, with_home, home_at, stands_in, is_shared, argument_in, standing_in, placed, extended_register, extended_second, extended_first, long_operation, comparison, joined_word, one_word, is_copying, copied, is_logical, made_size, made, compared, new_home, direct_code, is_direct, waiting_words, direct_by, is_short_constant, literal_word};
 ghost use Rattle.program_codegen.specs.Words.{holder, plain};
 
 use crate::lines::{Line, holder, push_words};
 use alpha_encode::registers::{TEMPORARIES, ZERO};
-use alpha_encode::{AlphaInstr, OperateOp, Second};
+use alpha_encode::{AlphaInstr, OperateOp, Second, operate_by};
 use compute_sequences::compute_words;
 use micro_ops::{Arg, MicroOp};
 use std::alloc::{AllocError, Global};
@@ -274,7 +274,23 @@ fn made_size(op: MicroOp, size: Size) -> Size
     }
 }
 
-/// A word whose result in temporary 2 is extended with its sign.
+/// A constant that is a literal.
+fn literal_word(to: u8, arg: Arg) -> Option<AlphaInstr>
+    ensures { result ≡ literal_word to arg }
+{
+    match arg {
+        Arg::Const(value) => {
+            if value < LITERALS {
+                Some(operate_by(OperateOp::Bis, ZERO, value as u8, to))
+            } else {
+                None
+            }
+        }
+        _ => None,
+    }
+}
+
+/// A word whose result is extended with its sign: a literal, or an operation into temporary 2.
 pub(crate) fn made(
     homes: Homes,
     to: u8,
@@ -285,7 +301,9 @@ pub(crate) fn made(
 ) -> Option<AlphaInstr>
     ensures { result ≡ made homes to op size a b }
 {
-    if to == RESULT {
+    if to < HOMES && is_copying(op, size) {
+        literal_word(holder(to), a)
+    } else if to == RESULT {
         one_word(
             long_operation(op),
             homes,
