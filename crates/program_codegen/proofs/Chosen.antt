@@ -26,7 +26,7 @@ use Rattle.program_codegen.specs.declared.homes.Homes.{Homes}
 use Rattle.program_codegen.specs.declared.lines.Line.{Line}
 use Rattle.program_codegen.specs.declared.points.Site.{Site}
 use Rattle.program_codegen.specs.Blocks.{block_lines, chosen_lines}
-use Rattle.program_codegen.specs.Homes.{choice_lines, direct_end, direct_lines, direct_step, end_at, end_words, home_of, next_exit, no_homes, tested_at, tested_exit, waiting_words}
+use Rattle.program_codegen.specs.Homes.{choice_lines, direct_end, direct_lines, direct_step, end_at, end_words, home_of, needed_words, next_exit, no_homes, tested_at, tested_exit}
 use Rattle.program_codegen.specs.Programs.{AllHaveWords, KeepsTogether, LeavesReady, ReadsReady}
 use Rattle.program_codegen.specs.Promises.{BeginsBy}
 use Rattle.program_codegen.specs.Words.{block_of, departing, plain, program_lines, trap_lines}
@@ -62,7 +62,7 @@ module _ (site : Site) (codes : List AlphaInstr) where
       by onward (inl tests) =
           let c = chained Exit (List Line) (tested_exit site codes homes to op size a b) (next_exit program) lines tests in
           let s = tested site codes homes to op size a b c.found lines c.onward in
-          subst (Starts site) s.whole (before site (map plain (waiting_words homes.waiting)) (choice_lines s.test s.chosen s.other) (row site (waiting_words homes.waiting)) refl)
+          subst (Starts site) s.whole (before site (map plain (needed_words to s.test.1 homes.waiting)) (choice_lines s.test s.chosen s.other) (row site (needed_words to s.test.1 homes.waiting)) refl)
       by onward (inr x) =
           let c = chained (Homes × List AlphaInstr) (List Line) (λ (step : Homes × List AlphaInstr). option_map (λ (lines : List Line). map plain step.1 ++ lines) (direct_lines site codes step.0 program)) (direct_step site.sources homes to op size a b program) lines x.1 in
           let m = mapped (List Line) (List Line) (λ (lines : List Line). map plain c.found.1 ++ lines) (direct_lines site codes c.found.0 program) lines c.onward in

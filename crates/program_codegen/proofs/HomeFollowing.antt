@@ -31,7 +31,7 @@ use Rattle.block_law.proofs.Rules.{Always, operates, roomy}
 use Rattle.program_codegen.specs.declared.homes.Homes.{Homes}
 use Rattle.program_codegen.specs.declared.lines.Line.{Line}
 use Rattle.program_codegen.specs.declared.points.Site.{Site}
-use Rattle.program_codegen.specs.Homes.{are_short_rules, choice_lines, commit_stays, copied, direct_by, direct_code, direct_end, direct_lines, direct_step, end_at, end_lines, end_words, exit_behind, exit_stays, is_direct, made, may_end, moved_words, new_home, next_exit, step_by, tested_at, tested_exit, waiting_words, with_home}
+use Rattle.program_codegen.specs.Homes.{are_short_rules, choice_lines, commit_stays, copied, direct_by, direct_code, direct_end, direct_lines, direct_step, end_at, end_lines, end_words, exit_behind, exit_stays, is_direct, made, may_end, moved_words, needed_words, new_home, next_exit, step_by, tested_at, tested_exit, waiting_words, with_home}
 use Rattle.program_codegen.specs.Programs.{AllHaveWords, ReadsReady}
 use Rattle.program_codegen.specs.Words.{departing, plain, trap_lines}
 use Rattle.program_codegen.proofs.Committing.{sets_codes}
@@ -123,7 +123,7 @@ module _ (site : Site) (codes : List AlphaInstr) where
       by onward (inl tests) =
           let c = chained Exit (List Line) (tested_exit site codes homes to op size a b) (next_exit program) lines tests in
           let s = tested site codes homes to op size a b c.found lines c.onward in
-          let count = length-append (map plain (waiting_words homes.waiting)) (choice_lines s.test s.chosen s.other) in
+          let count = length-append (map plain (needed_words to s.test.1 homes.waiting)) (choice_lines s.test s.chosen s.other) in
           subst (λ (ls : List Line). 1 ≤ length ls) s.whole (omega arith)
       by onward (inr x) =
           let e = x.1 in

@@ -19,7 +19,7 @@ use Rattle.alpha_encode.specs.declared.instr.OperateOp.{OperateOp}
 use Rattle.alpha_encode.specs.declared.instr.OperateOp.TheVariants as row
 use Rattle.alpha_encode.specs.declared.instr.Second.{Second}
 use Rattle.alpha_encode.specs.declared.instr.Second.TheVariants as seconds
-use Rattle.alpha_meaning.specs.Loops.{fine, is_operate}
+use Rattle.alpha_meaning.specs.Loops.{fine, is_operate, written}
 use Rattle.micro_ops.specs.Exits.{addresses_of, exit_addresses}
 use Rattle.micro_ops.specs.declared.known.Known.{Known}
 use Rattle.micro_ops.specs.declared.program.Arg.{Arg}
@@ -44,7 +44,7 @@ use Rattle.block_law.specs.Tidy.{is_kept, may_fault, register_written, writes_re
 use Rattle.program_codegen.specs.declared.homes.Homes.{Homes}
 use Rattle.program_codegen.specs.declared.lines.Line.{Line}
 use Rattle.program_codegen.specs.declared.points.Site.{Site}
-use Rattle.program_codegen.specs.Homes.{AreHomes, IsHome, are_short_rules, code_by, commit_stays, compared, comparison, copied, direct_code, direct_lines, direct_step, end_lines, exit_behind, exit_stays, extended_first, extended_second, home_by, home_of, is_copying, is_shared, long_operation, made, may_end, moved_words, new_home, placed, standing_in, with_home, end_words, step_by, waiting_words, choice_lines, next_exit, tested_at, tested_exit, is_short_constant, made_size}
+use Rattle.program_codegen.specs.Homes.{AreHomes, IsHome, are_short_rules, code_by, commit_stays, compared, comparison, copied, direct_code, direct_lines, direct_step, end_lines, exit_behind, exit_stays, extended_first, extended_second, home_by, home_of, is_copying, is_shared, long_operation, made, may_end, moved_words, new_home, placed, standing_in, with_home, end_words, step_by, waiting_words, choice_lines, next_exit, tested_at, tested_exit, is_short_constant, made_size, needed_words}
 use Rattle.program_codegen.specs.Programs.{AllHaveWords, IsExit}
 use Rattle.program_codegen.specs.Words.{departing, exit_lines, plain, trap_lines, words_of}
 use Rattle.program_codegen.proofs.Coded.{fine_operates}
@@ -466,11 +466,22 @@ module _ (site : Site) (codes : List AlphaInstr) (after_fits : site.after < 2 ^ 
           let leaves : leave ≡ exits.Choice to s.chosen s.other = same_Some leave exit is ∙ s.is in
           let fits : IsExit (exits.Choice to s.chosen s.other) = subst IsExit leaves have.1.0 in
           let shape = choice_shape changed s.test s.chosen s.other s.no_codes f.unlinked (f.small (have.0 out).1) fits.1 fits.2 in
-          let count = plain_length (waiting_words homes.waiting) in
+          let count = plain_length (needed_words to s.test.1 homes.waiting) in
+          let n = still_waits homes.waiting waits.encodable waits.silent in
+          let most = n.2 in
           subst (λ (rest : List Micro). ShapeOf changed homes (Compute to op size a b ∷ Leave leave ∷ rest) lines) (sym none)
           (subst (λ leave. ShapeOf changed homes (Compute to op size a b ∷ Leave leave ∷ []) lines) (sym leaves)
           (subst (λ (ls : List Line). ShapeOf changed homes (Compute to op size a b ∷ Leave (exits.Choice to s.chosen s.other) ∷ []) ls) s.whole
-          (silent_front site codes (s.chosen ∷ s.other ∷ []) changed (length (waiting_words homes.waiting)) 7 _ (waiting_words homes.waiting) (choice_lines s.test s.chosen s.other) waits.encodable waits.silent (omega arith) (omega arith) shape)))
+          (silent_front site codes (s.chosen ∷ s.other ∷ []) changed (length (waiting_words homes.waiting)) 7 _ (needed_words to s.test.1 homes.waiting) (choice_lines s.test s.chosen s.other) n.0 n.1 (omega arith) (omega arith) shape)))
+        where
+          still_waits : (o : Option AlphaInstr) → All IsEncodable (waiting_words o) → list_all is_silent (waiting_words o) ≡ true
+              → All IsEncodable (needed_words to s.test.1 o) × (list_all is_silent (needed_words to s.test.1 o) ≡ true) × (length (needed_words to s.test.1 o) ≤ length (waiting_words o))
+          still_waits None all silent = (all, silent, lit≤ tt)
+          still_waits (Some word) all silent = by (written word == (21 + to) && not (s.test.1 == (21 + to)))
+            where
+              by : (c : Bool) → All IsEncodable (if c then [] else word ∷ []) × (list_all is_silent (if c then [] else word ∷ []) ≡ true) × (length (if c then [] else word ∷ []) ≤ 1)
+              by true = (All-nil IsEncodable, refl, lit≤ tt)
+              by false = (all, silent, lit≤ tt)
       tested_then exit [] is s walked off have = absurd (cc is)
       tested_then exit (operation ∷ program) is s walked off have = absurd (cc is)
 

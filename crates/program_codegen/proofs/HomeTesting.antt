@@ -12,11 +12,12 @@ use Rattle.vax_form.specs.Tree.{Ends, Finish, Trap}
 use Rattle.vax_form.specs.declared.instr.Size.{Size}
 use Rattle.vax_form.specs.declared.instr.Size.TheVariants.{Byte, Word, Long, Quad}
 use Rattle.alpha_encode.specs.declared.instr.AlphaInstr.{AlphaInstr}
-use Rattle.alpha_encode.specs.declared.instr.AlphaInstr.TheVariants.{Branch}
+use Rattle.alpha_encode.specs.declared.instr.AlphaInstr.TheVariants.{Memory, Branch, Operate, Jump, Pal}
 use Rattle.alpha_encode.specs.declared.instr.BranchOp.{BranchOp}
 use Rattle.alpha_encode.specs.declared.instr.BranchOp.TheVariants.{Beq, Blbc}
-use Rattle.alpha_meaning.specs.Act.{links, taken, target_of}
-use Rattle.alpha_meaning.specs.Loops.{effects, is_operate}
+use Rattle.alpha_meaning.specs.Act.{links, second_value, taken, target_of}
+use Rattle.alpha_meaning.specs.Result.{result_of}
+use Rattle.alpha_meaning.specs.Loops.{effect, effects, is_operate, written}
 use Rattle.alpha_meaning.specs.State.{Regs, at_place, put}
 use Rattle.alpha_meaning.proofs.Registers.{put_other, put_same}
 use Rattle.exception_records.specs.Codes.{is_ready}
@@ -42,7 +43,7 @@ use Rattle.block_law.proofs.Rules.{Always, operates, passes, roomy, skips}
 use Rattle.program_codegen.specs.declared.homes.Homes.{Homes}
 use Rattle.program_codegen.specs.declared.lines.Line.{Line}
 use Rattle.program_codegen.specs.declared.points.Site.{Site}
-use Rattle.program_codegen.specs.Homes.{AreHomes, are_short_rules, bit_register, bit_test, byte_test, choice_lines, code_test, copied, home_of, is_direct, made, may_test, moved_words, new_home, placed, standing_in, test_of, tested_exit, waiting_words, with_home, argument_in, home_by, is_short_constant, long_test}
+use Rattle.program_codegen.specs.Homes.{AreHomes, are_short_rules, bit_register, bit_test, byte_test, choice_lines, code_test, copied, home_of, is_direct, made, may_test, moved_words, new_home, placed, standing_in, test_of, tested_exit, waiting_words, with_home, argument_in, home_by, is_short_constant, long_test, needed_words}
 use Rattle.program_codegen.specs.Programs.{rule_of}
 use Rattle.program_codegen.specs.Words.{exit_lines, may_trap, plain}
 use Rattle.program_codegen.proofs.Coded.{Coded}
@@ -220,7 +221,7 @@ pub record Tested (site : Site) (codes : List AlphaInstr) (homes : Homes) (to : 
   pub short : are_short_rules site.behind ≡ true
   pub test : BranchOp × ℕ
   pub found : test_of homes op size a b ≡ Some test
-  pub whole : map plain (waiting_words homes.waiting) ++ choice_lines test chosen other ≡ lines
+  pub whole : map plain (needed_words to test.1 homes.waiting) ++ choice_lines test chosen other ≡ lines
 
 pub tested : (site : Site) (codes : List AlphaInstr) (homes : Homes) (to : ℕ) (op : MicroOp) (size : Size) (a b : Arg) (exit : Exit) (lines : List Line) → tested_exit site codes homes to op size a b exit ≡ Some lines → Tested site codes homes to op size a b exit lines
 tested site codes homes to op size a b (exits.Choice when chosen other) lines e = by (when == to && may_test site codes homes to op size a b) refl e
@@ -234,12 +235,12 @@ tested site codes homes to op size a b (exits.Choice when chosen other) lines e 
     none (word ∷ words) e = let zero = eqb-true (length (word ∷ words)) 0 e in absurd (omega arith)
 
     by : (c : Bool) → (when == to && may_test site codes homes to op size a b) ≡ c
-        → (if c then option_map (λ (test : BranchOp × ℕ). map plain (waiting_words homes.waiting) ++ choice_lines test chosen other) (test_of homes op size a b) else None) ≡ Some lines → Tested site codes homes to op size a b (exits.Choice when chosen other) lines
+        → (if c then option_map (λ (test : BranchOp × ℕ). map plain (needed_words to test.1 homes.waiting) ++ choice_lines test chosen other) (test_of homes op size a b) else None) ≡ Some lines → Tested site codes homes to op size a b (exits.Choice when chosen other) lines
     by true is e =
         let x = and_parts (when == to) (may_test site codes homes to op size a b) is in
         let y = all_four (nat_lt to 6 && is_direct homes to op size a b && is_none (made homes to op size a b)) (length codes == 0) (not (may_trap site)) (are_short_rules site.behind) x.1 in
         let first = all_three (nat_lt to 6) (is_direct homes to op size a b) (is_none (made homes to op size a b)) y.0 in
-        let m = mapped (BranchOp × ℕ) (List Line) (λ (test : BranchOp × ℕ). map plain (waiting_words homes.waiting) ++ choice_lines test chosen other) (test_of homes op size a b) lines e in
+        let m = mapped (BranchOp × ℕ) (List Line) (λ (test : BranchOp × ℕ). map plain (needed_words to test.1 homes.waiting) ++ choice_lines test chosen other) (test_of homes op size a b) lines e in
         record {
           chosen = chosen;
           other = other;
@@ -281,6 +282,39 @@ chooses_by p site known standing regs c test false pc chosen other unlinked e w 
     (passes p None 3 (at_place regs pc) test.0 test.1 (pos 3) _ (stands p site.behind pc (Branch test.0 test.1 (pos 3)) None (exit_lines chosen ++ exit_lines other) w) (sym e)
     (is_inside p site.behind pc (pc + 1) _ w (omega arith) (omega arith)) (exits_to p site known standing regs c (pc + 1) chosen (exit_lines other) w1))
 
+-- ---- what waits
+effect_other : (word : AlphaInstr) (f : Regs) (n : ℕ) → (n == written word) ≡ false → effect word f n ≡ f n
+effect_other (Operate op ra rb rc) f n e = put_other f rc (result_of op (f ra) (second_value rb f) (f rc)) n e
+effect_other (Memory op ra rb disp) f n e = refl
+effect_other (Branch op ra disp) f n e = refl
+effect_other (Jump ra rb) f n e = refl
+effect_other (Pal number) f n e = refl
+
+record Needed (to register : ℕ) (o : Option AlphaInstr) (regs : Regs) : Type 0 where
+  pub same : (n : ℕ) → (n == (21 + to)) ≡ false → effects (needed_words to register o) regs n ≡ effects (waiting_words o) regs n
+  pub read : effects (needed_words to register o) regs register ≡ effects (waiting_words o) regs register
+  pub operate : list_all is_operate (needed_words to register o) ≡ true
+
+needed : (to register : ℕ) (o : Option AlphaInstr) (regs : Regs) → list_all is_operate (waiting_words o) ≡ true → Needed to register o regs
+needed to register None regs waits = record { same = λ n e. refl; read = refl; operate = refl }
+needed to register (Some word) regs waits = by (written word == (21 + to) && not (register == (21 + to))) refl
+  where
+    Under : List AlphaInstr → Type 0
+    Under words = ((n : ℕ) → (n == (21 + to)) ≡ false → effects words regs n ≡ effect word regs n) × (effects words regs register ≡ effect word regs register) × (list_all is_operate words ≡ true)
+
+    under : (c : Bool) → (written word == (21 + to) && not (register == (21 + to))) ≡ c → Under (if c then [] else word ∷ [])
+    under true e =
+        let x = and_parts (written word == (21 + to)) (not (register == (21 + to))) e in
+        let place = eqb-true (written word) (21 + to) x.0 in (
+          λ n other. sym (effect_other word regs n (subst (λ k. (n == k) ≡ false) (sym place) other)),
+          sym (effect_other word regs register (subst (λ k. (register == k) ≡ false) (sym place) (not-true (register == (21 + to)) x.1))),
+          refl,
+        )
+    under false e = (λ n other. refl, refl, waits)
+
+    by : (c : Bool) → (written word == (21 + to) && not (register == (21 + to))) ≡ c → Needed to register (Some word) regs
+    by c e = let u = under (written word == (21 + to) && not (register == (21 + to))) refl in record { same = u.0; read = u.1; operate = u.2 }
+
 -- ---- from the computation on
 module _ (p : Placement) (site : Site) (codes : List AlphaInstr) (setting : Setting p site codes) where
   pub tested_follows : (known : Known) (homes : Homes) (standing : Standing) (regs : Regs) (pc to : ℕ) (op : MicroOp) (size : Size) (a b : Arg) (exit : Exit) (lines : List Line)
@@ -293,16 +327,16 @@ module _ (p : Placement) (site : Site) (codes : List AlphaInstr) (setting : Sett
       → AtLeaves (CodesComeFrom site.sources p.begun) (leaves_by exit (found p site) (with_value to (computed op size (value_of_arg (found p site) standing.temps a) (value_of_arg (found p site) standing.temps b) (standing.temps to)) standing))
       → Always p None (length lines) (at_place regs pc) (tree (ends p) (leaves_by exit (found p site) (with_value to (computed op size (value_of_arg (found p site) standing.temps a) (value_of_arg (found p site) standing.temps b) (standing.temps to)) standing)))
   tested_follows known homes standing regs pc to op size a b exit lines waits d s w ok a_is b_is ready exit_ok sources agree =
-      let count : length (map plain (waiting_words homes.waiting) ++ choice_lines s.test s.chosen s.other) ≡ length (waiting_words homes.waiting) + 7 = row_length p site.behind (waiting_words homes.waiting) (choice_lines s.test s.chosen s.other) in
+      let count : length (map plain (needed_words to s.test.1 homes.waiting) ++ choice_lines s.test s.chosen s.other) ≡ length (needed_words to s.test.1 homes.waiting) + 7 = row_length p site.behind (needed_words to s.test.1 homes.waiting) (choice_lines s.test s.chosen s.other) in
       let high = within.high in
       subst (λ (ls : List Line). Always p None (length ls) (at_place regs pc) (tree (ends p) (leaves_by exit (found p site) after))) s.whole
-      (subst (λ exit. Always p None (length (map plain (waiting_words homes.waiting) ++ choice_lines s.test s.chosen s.other)) (at_place regs pc) (tree (ends p) (leaves_by exit (found p site) after))) (sym s.is)
-      (roomy p None (length (waiting_words homes.waiting) + 7) (length (map plain (waiting_words homes.waiting) ++ choice_lines s.test s.chosen s.other)) (at_place regs pc) _ (omega arith)
-      (operates p None 7 (waiting_words homes.waiting) regs pc _ (row_words p site.behind pc (waiting_words homes.waiting) (choice_lines s.test s.chosen s.other) within) waits within.low (omega arith)
-      (λ q lt le. is_inside p site.behind pc q (map plain (waiting_words homes.waiting) ++ choice_lines s.test s.chosen s.other) within lt (omega arith))
-      (subst (λ c. Always p None 7 (at_place begun (pc + length (waiting_words homes.waiting))) (departed p.serve (if c then Ended (Trap 1 (with_pc (pc_left site after (exits.Choice to s.chosen s.other)) after.state)) else onward))) (sym calm)
-      (subst (λ c. Always p None 7 (at_place begun (pc + length (waiting_words homes.waiting))) (Ends (Finish (with_pc (if c then s.other else s.chosen) after.state)))) same
-      (chooses_by p site (emptied (hidden homes_then behind)) after begun coded_begun s.test (taken s.test.0 (begun s.test.1)) (pc + length (waiting_words homes.waiting)) s.chosen s.other f.unlinked refl (row_rest p site.behind pc (waiting_words homes.waiting) (choice_lines s.test s.chosen s.other) within)))))))
+      (subst (λ exit. Always p None (length (map plain (needed_words to s.test.1 homes.waiting) ++ choice_lines s.test s.chosen s.other)) (at_place regs pc) (tree (ends p) (leaves_by exit (found p site) after))) (sym s.is)
+      (roomy p None (length (needed_words to s.test.1 homes.waiting) + 7) (length (map plain (needed_words to s.test.1 homes.waiting) ++ choice_lines s.test s.chosen s.other)) (at_place regs pc) _ (omega arith)
+      (operates p None 7 (needed_words to s.test.1 homes.waiting) regs pc _ (row_words p site.behind pc (needed_words to s.test.1 homes.waiting) (choice_lines s.test s.chosen s.other) within) n.operate within.low (omega arith)
+      (λ q lt le. is_inside p site.behind pc q (map plain (needed_words to s.test.1 homes.waiting) ++ choice_lines s.test s.chosen s.other) within lt (omega arith))
+      (subst (λ c. Always p None 7 (at_place now (pc + length (needed_words to s.test.1 homes.waiting))) (departed p.serve (if c then Ended (Trap 1 (with_pc (pc_left site after (exits.Choice to s.chosen s.other)) after.state)) else onward))) (sym calm)
+      (subst (λ c. Always p None 7 (at_place now (pc + length (needed_words to s.test.1 homes.waiting))) (Ends (Finish (with_pc (if c then s.other else s.chosen) after.state)))) same
+      (chooses_by p site (emptied (hidden homes_then behind)) after now coded_now s.test (taken s.test.0 (now s.test.1)) (pc + length (needed_words to s.test.1 homes.waiting)) s.chosen s.other f.unlinked refl (row_rest p site.behind pc (needed_words to s.test.1 homes.waiting) (choice_lines s.test s.chosen s.other) within)))))))
     where
       after : Standing
       after = with_value to (computed op size (value_of_arg (found p site) standing.temps a) (value_of_arg (found p site) standing.temps b) (standing.temps to)) standing
@@ -319,7 +353,13 @@ module _ (p : Placement) (site : Site) (codes : List AlphaInstr) (setting : Sett
       f : Facts homes to op size a b s.test
       f = facts homes d.are to s.own op size a b s.test s.found
 
-      within : Within p site.behind pc (map plain (waiting_words homes.waiting) ++ choice_lines s.test s.chosen s.other)
+      n : Needed to s.test.1 homes.waiting regs
+      n = needed to s.test.1 homes.waiting regs waits
+
+      now : Regs
+      now = effects (needed_words to s.test.1 homes.waiting) regs
+
+      within : Within p site.behind pc (map plain (needed_words to s.test.1 homes.waiting) ++ choice_lines s.test s.chosen s.other)
       within = subst (Within p site.behind pc) (sym s.whole) w
 
       value : ℕ
@@ -346,8 +386,9 @@ module _ (p : Placement) (site : Site) (codes : List AlphaInstr) (setting : Sett
       coded : Coded p site (hidden homes_then behind) after whole
       coded = leaves_codes p site codes setting behind homes_then after whole d' [] (trap_or site after (exits.Choice to s.chosen s.other) onward) no_words sources s.short left come
 
-      coded_begun : Coded p site (emptied (hidden homes_then behind)) after begun
-      coded_begun = let own = s.own in coded_alike p site (hidden homes_then behind) after whole begun (21 + to) (omega arith) (omega arith) (λ n other. sym (put_other begun (21 + to) value n other)) coded
+      coded_now : Coded p site (emptied (hidden homes_then behind)) after now
+      coded_now = let own = s.own in
+          coded_alike p site (hidden homes_then behind) after whole now (21 + to) (omega arith) (omega arith) (λ k other. n.same k other ∙ sym (put_other begun (21 + to) value k other)) coded
 
       calm : traps after ≡ false
       calm = ap (λ c. c && (flag_of 5 after.state.psw == 1))
@@ -358,8 +399,9 @@ module _ (p : Placement) (site : Site) (codes : List AlphaInstr) (setting : Sett
       held_there = let x = all_three (holds behind to) (not (to == 3)) (not (to == 4)) (subst (λ exit. exit_fits behind exit ≡ true) s.is exit_ok) in
           exit_value p site (hidden homes_then behind) after whole to s.own (rw (ap is_something (held_own homes_then behind to (f.homeless s.unmade)) ∙ x.0, x.1, x.2) refl) coded
 
-      same : taken s.test.0 (begun s.test.1) ≡ (after.temps to == 0)
+      same : taken s.test.0 (now s.test.1) ≡ (after.temps to == 0)
       same =
           let own = s.own in
           let last : ((21 + to) == 31) ≡ false = grind (arith, nat_tests) in
-          sym (f.value begun (begun (21 + to)) d.holds.form.codes) ∙ ap (λ n. n == 0) (sym (put_same begun (21 + to) value last) ∙ held_there)
+          ap (taken s.test.0) n.read
+          ∙ sym (f.value begun (begun (21 + to)) d.holds.form.codes) ∙ ap (λ n. n == 0) (sym (put_same begun (21 + to) value last) ∙ held_there)

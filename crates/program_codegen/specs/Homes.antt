@@ -36,7 +36,7 @@ use Rattle.program_codegen.specs.Words.{plain, holder, exit_lines, may_trap, tra
 
 -- ---- homes
 -- Temporaries 0 to 2 may be the low longword of a register that is extended with its sign: of a VAX register, or of one of
--- their own. All others stand in their own registers, exactly. The word that makes the result may wait.
+-- their own. All others stand in their own registers, exactly. The word that makes one may wait.
 abbrev pub no_homes : Homes
 no_homes = record { first = None; second = None; result = None; waiting = None }
 
@@ -184,7 +184,7 @@ direct_code homes to op size a b =
     code_by (copied homes to op size a) (made homes to op size a b) (compared homes to op size a b)
     (compute_code op size (placed homes a) (placed homes b) (holder to))
 
--- A word that makes the result waits until another computation has words, or up to the end.
+-- A word that makes a literal or the result waits until another computation has words, or up to the end.
 abbrev pub waiting_words : Option AlphaInstr → List AlphaInstr
 waiting_words None = []
 waiting_words (Some word) = word ∷ []
@@ -533,6 +533,11 @@ test_of homes op size a b = None
 abbrev pub choice_lines : BranchOp × ℕ → (taken other : ℕ) → List Line
 choice_lines test taken other = plain (Branch test.0 test.1 (pos 3)) ∷ (exit_lines taken ++ exit_lines other)
 
+-- What waits has no use where the computation writes over it, but for the test.
+abbrev pub needed_words : (to register : ℕ) → (waiting : Option AlphaInstr) → List AlphaInstr
+needed_words to register None = []
+needed_words to register (Some word) = if written word == holder to && not (register == holder to) then [] else word ∷ []
+
 -- no word leaves a code, and nothing traps
 abbrev pub may_test : Site → (codes : List AlphaInstr) → Homes → (to : ℕ) → MicroOp → Size → (a b : Arg) → Bool
 may_test site codes homes to op size a b =
@@ -542,7 +547,7 @@ may_test site codes homes to op size a b =
 abbrev pub tested_exit : Site → (codes : List AlphaInstr) → Homes → (to : ℕ) → MicroOp → Size → (a b : Arg) → Exit → Option (List Line)
 tested_exit site codes homes to op size a b (Choice when taken other) =
     if when == to && may_test site codes homes to op size a b
-    then option_map (λ (test : BranchOp × ℕ). map plain (waiting_words homes.waiting) ++ choice_lines test taken other) (test_of homes op size a b)
+    then option_map (λ (test : BranchOp × ℕ). map plain (needed_words to test.1 homes.waiting) ++ choice_lines test taken other) (test_of homes op size a b)
     else None
 tested_exit site codes homes to op size a b exit = None
 

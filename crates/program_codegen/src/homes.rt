@@ -31,7 +31,7 @@ pub(crate) struct Homes {
     pub(crate) first: Option<u8>,
     pub(crate) second: Option<u8>,
     pub(crate) result: Option<u8>,
-    /// The word that makes the result, where that waits.
+    /// The word that makes one of them, where that waits.
     pub(crate) waiting: Option<AlphaInstr>,
 }
 
@@ -354,7 +354,7 @@ pub(crate) fn push_waiting(
     }
 }
 
-/// The words up to a computation, of which a copy has none and one that makes the result waits, and where its temporary stands
+/// The words up to a computation, of which a copy has none and a literal or a result waits, and where its temporary stands
 /// behind them.
 pub(crate) fn push_direct(
     alloc: Global,

@@ -35,7 +35,7 @@ fn word_reads(word: AlphaInstr, register: u8) -> bool
 }
 
 /// The register that a word writes.
-fn written(word: AlphaInstr) -> u8
+pub(crate) fn written(word: AlphaInstr) -> u8
     ensures { result ≡ written word }
 {
     match word {

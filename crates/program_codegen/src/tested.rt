@@ -1,14 +1,15 @@
 // Exits that are chosen by what stands in a register.
-ghost use Rattle.std.specs.Prelude.{◌≡◌, ◌++◌, ◌∷◌, IfOk, IfSome, MatchOption, OnOk, None, Some, map};
+ghost use Rattle.std.specs.Prelude.{◌≡◌, ◌≤◌, ◌++◌, ◌∷◌, IfOk, IfSome, MatchOption, OnOk, None, Some, map};
 ghost use Rattle.program_codegen.specs.Words.{plain};
-ghost use Rattle.program_codegen.specs.Homes.{bit_register, bit_test, code_test, byte_test, test_of, choice_lines, may_test, tested_exit, next_exit, tested_at, waiting_words};
+ghost use Rattle.program_codegen.specs.Homes.{bit_register, bit_test, code_test, byte_test, test_of, choice_lines, may_test, tested_exit, needed_words, next_exit, tested_at};
 ghost use Rattle.program_codegen.specs.Programs.{IsRanged, RangedToLeave};
 
 use crate::direct::{are_short_rules, exit_of};
-use crate::homes::{Homes, home_of, is_direct, made, push_waiting};
+use crate::homes::{Homes, home_of, is_direct, made};
 use crate::leaving::may_trap;
-use crate::lines::{Line, holder, plain, push_exit};
+use crate::lines::{Line, holder, plain, push_exit, push_words};
 use crate::points::Site;
+use crate::spared::written;
 use alpha_encode::registers::NEGATIVE;
 use alpha_encode::{AlphaInstr, BranchOp, branch};
 use micro_ops::{Arg, Exit, Micro, MicroOp};
@@ -73,6 +74,29 @@ fn test_of(homes: Homes, op: MicroOp, size: Size, a: Arg, b: Arg) -> Option<Test
         (MicroOp::And, Size::Byte | Size::Long) => bit_test(homes, a, b),
         (MicroOp::Move, Size::Byte) => code_test(a),
         _ => None,
+    }
+}
+
+/// The word that waits, where the computation doesn't write over it, or the test reads it.
+fn push_needed(
+    lines: &mut Vec<Line>,
+    to: u8,
+    register: u8,
+    waiting: Option<AlphaInstr>,
+) -> Result<(), AllocError>
+    requires { to ≤ 5 }
+    ensures { OnOk result (lines.new.items ≡ lines.old.items ++ map plain (needed_words to register waiting)) }
+{
+    let place = holder(to);
+    match waiting {
+        Some(word) => {
+            if written(word) == place && register != place {
+                Ok(())
+            } else {
+                push_words(lines, &[word])
+            }
+        }
+        None => Ok(()),
     }
 }
 
@@ -143,7 +167,7 @@ pub(crate) fn tested_at(
         return Ok(None);
     };
     let mut lines = Vec::new(alloc);
-    push_waiting(&mut lines, homes.waiting)?;
+    push_needed(&mut lines, to, test.1, homes.waiting)?;
     push_choice(&mut lines, test, taken, other)?;
     Ok(Some(lines))
 }
