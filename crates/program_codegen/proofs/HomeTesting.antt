@@ -1,6 +1,6 @@
 -- Exits that are chosen by what stands in a register.
-use Rattle.std.proofs.Common.{◌≡◌, ℕ, ◌+◌, ◌-◌, ◌%◌, ◌^◌, ◌<◌, ◌≤◌, refl, sym, ap, ◌∙◌, subst, arith, eqb-true, List, [], ◌∷◌, ◌++◌, length, map, Option, Some, None, Bool, true, false, lit≤, lit<}
-use Rattle.std.specs.Prelude.{pos, ◌==◌, ◌&&◌, not, nat_lt, option_map, unwrap_or, if◌then◌else◌, ◌||◌, is_none, bit_and}
+use Rattle.std.proofs.Common.{◌≡◌, ℕ, ◌+◌, ◌-◌, ◌%◌, ◌^◌, ◌<◌, ◌≤◌, refl, sym, ap, ◌∙◌, subst, arith, eqb-true, List, [], ◌∷◌, ◌++◌, length, map, Option, Some, None, Bool, true, false, lit≤}
+use Rattle.std.specs.Prelude.{pos, ◌==◌, ◌&&◌, not, nat_lt, option_map, unwrap_or, if◌then◌else◌, is_none}
 use Rattle.std.specs.List.{list_all}
 use Rattle.std.proofs.Math.Nat.{mod-eq_of_lt}
 use Rattle.std.proofs.lemmas.Bool.Decides.{nat_tests}
@@ -43,7 +43,7 @@ use Rattle.block_law.proofs.Rules.{Always, operates, passes, roomy, skips}
 use Rattle.program_codegen.specs.declared.homes.Homes.{Homes}
 use Rattle.program_codegen.specs.declared.lines.Line.{Line}
 use Rattle.program_codegen.specs.declared.points.Site.{Site}
-use Rattle.program_codegen.specs.Homes.{AreHomes, are_short_rules, bit_register, bit_test, byte_test, choice_lines, code_test, copied, home_of, is_direct, made, may_test, moved_words, new_home, placed, standing_in, test_of, tested_exit, waiting_words, with_home, argument_in, home_by, is_short_constant, long_test, needed_words}
+use Rattle.program_codegen.specs.Homes.{AreHomes, are_short_rules, bit_register, bit_test, byte_test, choice_lines, code_test, copied, home_of, is_direct, made, may_test, moved_words, new_home, placed, standing_in, test_of, tested_exit, waiting_words, with_home, home_by, is_short_constant, long_test, needed_words}
 use Rattle.program_codegen.specs.Programs.{rule_of}
 use Rattle.program_codegen.specs.Words.{exit_lines, may_trap, plain}
 use Rattle.program_codegen.proofs.Coded.{Coded}
