@@ -1,5 +1,5 @@
 -- Arithmetic and logical instructions.
-use Rattle.std.proofs.Common.{◌≡◌, ℕ, ◌%◌, ◌^◌, ◌<◌, ◌≤◌, true, false, [], ◌∷◌, refl, sym, ap, ◌∙◌, arith}
+use Rattle.std.proofs.Common.{◌≡◌, ℕ, ◌%◌, ◌^◌, ◌<◌, ◌≤◌, true, false, refl, sym, ap, ◌∙◌, arith}
 use Rattle.std.proofs.Math.Nat.{mod-eq_of_lt}
 use Rattle.vax_form.specs.Size.{bytes_of}
 use Rattle.vax_form.specs.Script.{◌>>◌, change}
@@ -60,10 +60,8 @@ use Rattle.micro_lower.proofs.Ready.{ReadyFor}
 use Rattle.vax_meaning.specs.Arithmetic.{finish_binary, two_operands, three_operands, replace}
 use Rattle.vax_meaning.specs.Codes.{with_all}
 use Rattle.micro_ops.specs.Meaning.{Found}
-use Rattle.micro_ops.specs.declared.program.Arg.TheVariants.{Temp}
 use Rattle.micro_ops.specs.declared.program.MicroOp.TheVariants as ops
 use Rattle.micro_ops.proofs.Sizes.{low_below, or_fits, xor_fits}
-use Rattle.micro_lower.specs.Plans.{unary}
 use Rattle.micro_lower.proofs.Overflow.{extended_below}
 use Rattle.std.proofs.Common.{lit<}
 

@@ -1,5 +1,5 @@
 -- Sums and differences with carry, shifts and rotation.
-use Rattle.std.proofs.Common.{◌≡◌, ℕ, ◌%◌, ◌^◌, ◌<◌, ◌==◌, Bool, true, false, List, [], ◌∷◌, refl, sym, ap, ◌∙◌, subst, arith, inl, inr}
+use Rattle.std.proofs.Common.{◌≡◌, ℕ, ◌%◌, ◌^◌, ◌<◌, ◌==◌, Bool, true, false, [], refl, sym, ap, ◌∙◌, subst, arith, inl, inr}
 use Rattle.std.proofs.Math.Nat.{mod-eq_of_lt}
 use Rattle.vax_form.specs.declared.instr.Instr.{Instr}
 use Rattle.vax_form.specs.declared.instr.Size.TheVariants.{Byte, Long}
@@ -47,11 +47,7 @@ use Rattle.std.proofs.lemmas.Nat.{or_lt, shr_le}
 use Rattle.micro_lower.proofs.Planned.{read_and_modify, read_twice_and_write}
 use Rattle.vax_meaning.specs.Arithmetic.{add_with_carry, subtract_with_carry, replace}
 use Rattle.vt_words.specs.Shifts.{rotation_of}
-use Rattle.micro_lower.specs.Plans.{unary}
 use Rattle.micro_lower.specs.Rows.{rotated as rotated_program, rotated_by, before_rotation, shift_plan_with, add_with_carry_plan, subtract_with_carry_plan, rotate_plan}
-use Rattle.micro_ops.specs.declared.program.Arg.TheVariants.{Temp}
-use Rattle.micro_ops.specs.declared.program.Micro.{Micro}
-use Rattle.micro_ops.specs.declared.program.MicroOp.TheVariants as ops
 use Rattle.operand_programs.specs.Pieces.{IsKnownValue}
 use Rattle.vax_form.specs.declared.instr.Operand.{Operand}
 use Rattle.vax_form.specs.declared.instr.Operand.TheVariants as operands

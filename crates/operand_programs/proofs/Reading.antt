@@ -20,10 +20,8 @@ use Rattle.vax_meaning.specs.Operands.{locate, register_value}
 use Rattle.vax_meaning.specs.declared.evaluation.Evaluated.{Evaluated}
 use Rattle.micro_ops.specs.Meaning.{Left, Temps, Found, Standing, with_temp, with_value, course_of}
 use Rattle.micro_ops.specs.Values.{value_from, limit_of}
-use Rattle.micro_ops.specs.declared.program.Arg.TheVariants.{Temp, Const}
-use Rattle.micro_ops.specs.declared.program.MicroOp.TheVariants as ops
 use Rattle.micro_ops.specs.declared.program.Micro.{Micro}
-use Rattle.micro_ops.specs.declared.program.Micro.TheVariants.{Compute, Probe, Read}
+use Rattle.micro_ops.specs.declared.program.Micro.TheVariants.{Probe, Read}
 use Rattle.operand_programs.specs.Specifiers.{stepped, steps_behind_operand, low_bytes_program, register_program, read_program}
 use Rattle.operand_programs.specs.Pieces.{Agrees, IsReadable, GoesOnWith, Kept}
 use Rattle.operand_programs.proofs.Accesses.{reads_agree}
