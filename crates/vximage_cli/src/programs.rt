@@ -72,7 +72,10 @@ pub fn words_of(alloc: Global, arguments: io::Result<Args>) -> io::Result<Vec<St
     ensures { AreBehindName arguments result }
 {
     let arguments = arguments?;
-    list_of(alloc, arguments.len(), arguments.skip(1)).map_err(|_| ErrorKind::OutOfMemory.into())
+    match list_of(alloc, arguments.len(), arguments.skip(1)) {
+        Ok(words) => Ok(words),
+        Err(_) => Err(ErrorKind::OutOfMemory.into()),
+    }
 }
 
 /// Calls `vximage` with the words that were read, with the files of the system and with these streams: the whole program.
