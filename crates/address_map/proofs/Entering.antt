@@ -3,11 +3,12 @@ use Rattle.std.proofs.Common.{◌≡◌, ◌≢◌, ℕ, zero, suc, ◌+◌, ◌
 use Rattle.std.specs.Prelude.{find, option_map, ◌||◌, ◌==◌}
 use Rattle.std.proofs.lemmas.Bool.{eq-eqb, ne_eqb, eqb-true, eqb-false}
 use Rattle.std.proofs.lemmas.List.{length-take-le, get_or-take, get_or_default, length-set, get_or-replicate, length-replicate, take_more}
-use Rattle.address_map.specs.Pairs.{Pair, KeysRise, word_at}
+use Rattle.address_map.specs.Pairs.{Pair, word_at}
 use Rattle.address_map.specs.Tables.{has_page, count_below, first_page, end_page, page_span, TablesValue, tables, opened, IsInside, Holds, HasTables, AreTablesOf}
+use Rattle.rising_lists.specs.Rising.{KeysRise}
 use Rattle.address_map.proofs.Counting.{and_page, and_here, count_nothing, count_small}
 use Rattle.address_map.proofs.Holding.{holds_same, within, holds_more, holds_put}
-use Rattle.address_map.proofs.Lookups.{below_later}
+use Rattle.rising_lists.proofs.Lookups.{below_later}
 
 abbrev number : Pair → ℕ
 number p = p.0

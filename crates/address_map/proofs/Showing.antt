@@ -3,8 +3,9 @@ use Rattle.std.proofs.Common.{◌≡◌, ℕ, ◌+◌, ◌-◌, ◌*◌, ◌/◌
 use Rattle.std.specs.Prelude.{slice_get, slice_index}
 use Rattle.std.proofs.lemmas.List.{get_or-map, length-map}
 use Rattle.std.proofs.lemmas.Option.{slice_get-get_or}
-use Rattle.address_map.specs.Pairs.{Pair, AllRise, KeysRise, swap, word_at, address_at}
+use Rattle.address_map.specs.Pairs.{Pair, AllRise, swap, word_at, address_at}
 use Rattle.address_map.specs.Tables.{has_page, count_below, table_number, upper_word, lower_place, first_page, end_page, page_span, TablesValue, IsInside, AreTablesOf}
+use Rattle.rising_lists.specs.Rising.{KeysRise}
 use Rattle.address_map.proofs.Holding.{within}
 use Rattle.address_map.proofs.Lookups.{addresses_rise}
 use Rattle.address_map.proofs.Entering.{span_is}

@@ -19,10 +19,6 @@ Rises p q = (p.0 < q.0) × (p.1 < q.1)
 abbrev pub AllRise : List Pair → Type 0
 AllRise pairs = AllAdjacentBelow Rises pairs (length pairs)
 
--- a number rises from each item to the next
-abbrev pub KeysRise : {A : Type 0} → (A → ℕ) → List A → Type 0
-KeysRise key items = AllAdjacentBelow (λ p q. key p < key q) items (length items)
-
 -- the Alpha word beside a VAX address
 abbrev pub word_at : List Pair → ℕ → Option ℕ
 word_at pairs address = option_map (λ p. p.1) (find (λ p. p.0 == address) pairs)

@@ -10,9 +10,9 @@ ghost use Rattle.std.specs.Prelude.{◌≡◌, IfErr, IfOk, OnOk, map};
 
 use crate::beginnings::beginnings;
 use crate::tables::Tables;
-pub use beginnings::MOST_WORDS;
 use std::alloc::{AllocError, Global};
 use std::marker::Model;
+use vax_form::WantOfMemory;
 
 /// Why a list of pairs is refused.
 #[derive(Clone, Copy, Debug, PartialEq, Eq)]
@@ -152,7 +152,7 @@ pub fn build(alloc: Global, pairs: &[(u32, u32)]) -> Result<AddressMap, MapRefus
     map_of(alloc, pairs).map_err(|_| MapRefusal::WantOfMemory)
 }
 
-fn map_of(alloc: Global, pairs: &[(u32, u32)]) -> Result<AddressMap, AllocError>
+fn map_of(alloc: Global, pairs: &[(u32, u32)]) -> Result<AddressMap, WantOfMemory>
     requires { AllRise pairs.now }
     ensures { IfOk result (λ m. m ≡ pairs.now) }
 {

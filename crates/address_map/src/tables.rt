@@ -1,10 +1,12 @@
 //! What stands beside a number in a rising list, found at one look.
 ghost use Rattle.std.specs.Prelude.{◌≡◌, ◌<◌, ◌≤◌, ◌+◌, ◌-◌, ◌*◌, ◌/◌, ◌^◌, ◌++◌, ◌∷◌, [], ℕ, None, length, take, replicate, slice_index, List, IfOk, OnOk};
-ghost use Rattle.address_map.specs.Pairs.{Pair, KeysRise, word_at};
+ghost use Rattle.address_map.specs.Pairs.{Pair, word_at};
 ghost use Rattle.address_map.specs.Tables.{first_page, end_page, page_span, tables, opened, HasTables, AreTablesOf};
+ghost use Rattle.rising_lists.specs.Rising.{KeysRise};
 
-use std::alloc::{AllocError, Global};
+use std::alloc::Global;
 use std::marker::Model;
+use vax_form::WantOfMemory;
 
 /// The numbers of a page.
 pub const PAGE: usize = 512;
@@ -28,7 +30,7 @@ impl Model for Tables {
 
 impl Tables {
     /// The tables of pairs that rise in their first number.
-    pub fn new(alloc: Global, pairs: &[(u32, u32)]) -> Result<Tables, AllocError>
+    pub fn new(alloc: Global, pairs: &[(u32, u32)]) -> Result<Tables, WantOfMemory>
         requires { KeysRise (λ (p : Pair). p.0) pairs.now }
         ensures { IfOk result (λ tables. AreTablesOf tables pairs.now) }
     {
@@ -81,7 +83,7 @@ fn enter(
     lower: &mut Vec<Option<u32>>,
     pairs: &[(u32, u32)],
     place: usize,
-) -> Result<(), AllocError>
+) -> Result<(), WantOfMemory>
     requires within { place < length pairs.now }
     requires rise { KeysRise (λ (p : Pair). p.0) pairs.now }
     requires first { first ≡ first_page pairs.now }
@@ -101,7 +103,7 @@ fn table_for(
     upper: &mut [u32],
     lower: &mut Vec<Option<u32>>,
     page: usize,
-) -> Result<usize, AllocError>
+) -> Result<usize, WantOfMemory>
     requires within { page < length upper.old }
     requires few { length lower.old.items ≤ 2 ^ 32 }
     ensures upper { OnOk result (upper.new ≡ (opened page upper.old lower.old.items).0) }

@@ -11,7 +11,7 @@ use Rattle.alpha_encode.specs.declared.instr.AlphaInstr.{AlphaInstr}
 use Rattle.alpha_encode.proofs.Reread.{again}
 use Rattle.exception_records.specs.Blocks.{BlockValue}
 use Rattle.exception_records.specs.Points.{Entry, WordsRise, point_at}
-use Rattle.address_map.proofs.Lookups.{find_at, find_none}
+use Rattle.rising_lists.proofs.Lookups.{find_at, find_none}
 use Rattle.block_law.specs.Blocks.{IsBlockOf}
 use Rattle.block_law.specs.Translations.{fetch_of}
 use Rattle.branch_layout.specs.Layouts.{shifted}

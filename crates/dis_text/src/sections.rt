@@ -15,7 +15,7 @@ use crate::put::put_longword;
 use image_file::{Image, Section};
 use report_text::Line;
 use std::alloc::{AllocError, Global};
-use vax_form::{Instr, PageRange, Pages};
+use vax_form::{Instr, PageRange, Pages, WantOfMemory};
 
 fn put_spaced(out: &mut Vec<u8>, number: u64) -> Result<(), AllocError>
     ensures { OnOk result (out.new.items ≡ out.old.items ++ 32 ∷ decimal number) }
@@ -163,7 +163,7 @@ pub fn listing_text(
     instrs: &[Instr],
     code: &Code<'_>,
     range: Range,
-) -> Result<Vec<u8>, AllocError>
+) -> Result<Vec<u8>, WantOfMemory>
     requires { All (λ instr. instruction_at image.now.pages instr.at ≡ Some instr) instrs.now }
     ensures { IfOk result (λ text. text.items ≡ listing_text (asked image.now hints.now (map name_value names.now) code.now.words.now code.now.map.now code.now.is_told range) instrs.now image.now.sections) }
 {

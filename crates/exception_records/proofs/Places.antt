@@ -4,7 +4,7 @@ use Rattle.std.specs.Prelude.{◌==◌, option_map, slice_get, slice_set}
 use Rattle.std.proofs.lemmas.Bool.{eqb-false}
 use Rattle.std.proofs.lemmas.List.{get_or_default, get_or-set_same, get_or-set_other}
 use Rattle.std.proofs.lemmas.Option.{get_or_from_slice_get, slice_get-get_or, slice_get_read, slice_get_within}
-use Rattle.address_map.proofs.Lookups.{find_at, find_none}
+use Rattle.rising_lists.proofs.Lookups.{find_at, find_none}
 use Rattle.exception_records.specs.declared.rules.CodeRule.TheVariants.{Ready}
 use Rattle.exception_records.specs.Points.{ArePlacesOf, Entry, WordsRise, point_at}
 

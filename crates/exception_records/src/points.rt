@@ -2,8 +2,8 @@
 ghost use Rattle.std.specs.Prelude.{◌≡◌, IfErr, IfOk, OnOk};
 
 use crate::rules::Rules;
-use address_map::MOST_WORDS;
-use std::alloc::{AllocError, Global};
+use rising_lists::numbers_told;
+use std::alloc::Global;
 use std::marker::Model;
 use vax_form::{Exception, WantOfMemory};
 
@@ -132,11 +132,11 @@ fn point_in(points: &[(u32, Point)], alpha: u32) -> Option<&Point>
     }
 }
 
-fn places_of(alloc: Global, points: &[(u32, Point)]) -> Result<Vec<Option<u32>>, AllocError>
+fn places_of(alloc: Global, points: &[(u32, Point)]) -> Result<Vec<Option<u32>>, WantOfMemory>
     requires { WordsRise points.now }
     ensures { IfOk result (λ places. ArePlacesOf places.items points.now) }
 {
-    let mut places = vec![in alloc; None; words_told(points)]?;
+    let mut places = vec![in alloc; None; numbers_told(points.last().map(|point| point.0))]?;
     for place in 0..points.len() {
         let word = points[place].0 as usize;
         if word < places.len() {
@@ -144,13 +144,6 @@ fn places_of(alloc: Global, points: &[(u32, Point)]) -> Result<Vec<Option<u32>>,
         }
     }
     Ok(places)
-}
-
-fn words_told(points: &[(u32, Point)]) -> usize {
-    match points.len() {
-        0 => 0,
-        len => MOST_WORDS.min(points[len - 1].0 as usize + 1),
-    }
 }
 
 ghost use Rattle.exception_records.specs.Points.{WordsRise, HasFlaw};

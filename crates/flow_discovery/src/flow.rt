@@ -9,7 +9,8 @@ ghost use Rattle.vax_form.specs.Targets.{branch_target, fixed_targets};
 
 use std::alloc::{AllocError, Global};
 use vax_form::{
-    Instr, LongOperation, Operand, Operation, Pages, branch_target, call_of, jump_of, operation_of,
+    Instr, LongOperation, Operand, Operation, Pages, WantOfMemory, branch_target, call_of, jump_of,
+    operation_of,
 };
 use vax_long::code_word;
 
@@ -121,7 +122,7 @@ fn push_fixed_targets(instr: &Instr, into: &mut Vec<u32>) -> Result<(), AllocErr
 
 /// The addresses to which control may go on from the instruction.
 #[tactic(auto, unfolding(crate::specs::Flow::goes_on))]
-pub fn goes_on(alloc: Global, pages: &Pages, instr: &Instr) -> Result<Vec<u32>, AllocError>
+pub fn goes_on(alloc: Global, pages: &Pages, instr: &Instr) -> Result<Vec<u32>, WantOfMemory>
     ensures { IfOk result (λ v. v.items ≡ goes_on pages.now instr.now) }
 {
     let mut addresses = Vec::new(alloc);
@@ -129,7 +130,7 @@ pub fn goes_on(alloc: Global, pages: &Pages, instr: &Instr) -> Result<Vec<u32>, 
         return Ok(addresses);
     };
     if falls_through(operation) {
-        addresses.push(instr.after)?;
+        push_some(Some(instr.after), &mut addresses)?;
     }
     push_fixed_targets(instr, &mut addresses)?;
     push_table_of(pages, instr, operation, &mut addresses)?;

@@ -11,7 +11,7 @@ use crate::tables::put_tables;
 use flow_discovery::has_block;
 use image_file::Image;
 use std::alloc::{AllocError, Global};
-use vax_form::{Instr, Pages};
+use vax_form::{Instr, Pages, WantOfMemory};
 use vax_text::name_of;
 
 /// How many opcodes there are.
@@ -124,7 +124,7 @@ fn put_all_stops(
     out: &mut Vec<u8>,
     pages: &Pages,
     instrs: &[Instr],
-) -> Result<(), AllocError>
+) -> Result<(), WantOfMemory>
     ensures { OnOk result (out.new.items ≡ out.old.items ++ flat_map (stop_lines pages.now) instrs.now) }
 {
     for instr in instrs {
@@ -150,14 +150,15 @@ fn put_flow(
     instrs: &[Instr],
     mapped: u64,
     words: u64,
-) -> Result<(), AllocError>
+) -> Result<(), WantOfMemory>
     ensures { OnOk result (out.new.items ≡ out.old.items ++ flow_text image.now instrs.now mapped words) }
 {
     put_reached(out, &image.pages, instrs, mapped, words)?;
     put_opcodes(out, &image.pages, instrs)?;
     put_opens(out, instrs)?;
     put_all_stops(alloc, out, &image.pages, instrs)?;
-    put_services(out, instrs)
+    put_services(out, instrs)?;
+    Ok(())
 }
 
 /// The text of a whole image, of the hints of its translation, of the instructions that can be reached, and of how many
@@ -171,7 +172,7 @@ pub fn show_text(
     instrs: &[Instr],
     mapped: u64,
     words: u64,
-) -> Result<(), AllocError>
+) -> Result<(), WantOfMemory>
     requires { IsWhole image.now }
     ensures { OnOk result (out.new.items ≡ out.old.items ++ show_text image.now hints.now instrs.now mapped words) }
 {

@@ -11,7 +11,9 @@ use flow_discovery::goes_on;
 use service_codes::EXIT;
 use std::alloc::{AllocError, Global};
 use vax_decode::{Decoded, decode_at};
-use vax_form::{Instr, LongOperation, Operand, Operation, Pages, call_of, jump_of, operation_of};
+use vax_form::{
+    Instr, LongOperation, Operand, Operation, Pages, WantOfMemory, call_of, jump_of, operation_of,
+};
 use vax_text::name_of;
 
 /// A CASE whose limit is this or more is not followed.
@@ -189,12 +191,13 @@ pub fn put_stops(
     out: &mut Vec<u8>,
     pages: &Pages,
     instr: &Instr,
-) -> Result<(), AllocError>
+) -> Result<(), WantOfMemory>
     ensures { OnOk result (out.new.items ≡ out.old.items ++ stop_lines pages.now instr.now) }
 {
     if ends_thread(instr) {
         return Ok(());
     }
     let addresses = goes_on(alloc, pages, instr)?;
-    put_stops_at(out, pages, instr.at, &addresses)
+    put_stops_at(out, pages, instr.at, &addresses)?;
+    Ok(())
 }

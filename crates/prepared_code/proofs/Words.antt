@@ -4,7 +4,8 @@ use Rattle.std.specs.Prelude.{map, not, slice_get, option_map, is_some}
 use Rattle.std.proofs.lemmas.Bool.{eq-eqb, ne_eqb}
 use Rattle.std.proofs.lemmas.List.{length-append}
 use Rattle.std.proofs.lemmas.Option.{slice_get-map, slice_get-get_or, slice_get_read}
-use Rattle.address_map.proofs.Lookups.{below_later, words_rise, find_none, address_at-pair}
+use Rattle.rising_lists.proofs.Lookups.{below_later, find_none}
+use Rattle.address_map.proofs.Lookups.{words_rise, address_at-pair}
 use Rattle.address_map.specs.Pairs.{Pair, AllRise, address_at}
 use Rattle.prepared_code.specs.Prepared.{IsNext, IsNumber, IsReady, AreReady, begun}
 use Rattle.prepared_code.specs.Sources.{Source, block_by, block_of, block_at}

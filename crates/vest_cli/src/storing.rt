@@ -13,7 +13,8 @@ ghost use Rattle.vest_cli.specs.Storing.{HasRoomFor, Stores, has_failed, name_of
 
 use crate::execute::{Run, Task};
 use command_words::RunOptions;
-use std::alloc::{AllocError, Global};
+use std::alloc::Global;
+use vax_form::WantOfMemory;
 use vest_runs::OrderRoom;
 use vest_stops::Done;
 use vt_outside::{Desk, DeskWrite};
@@ -30,7 +31,7 @@ pub(crate) fn order_file(
     alloc: Global,
     task: &Task,
     options: &RunOptions<'_>,
-) -> Result<Option<OrderFile>, AllocError>
+) -> Result<Option<OrderFile>, WantOfMemory>
     requires whole { IsWhole task.now.loaded.image }
     requires input { length task.now.taken.items ≤ MOST_INPUT }
     requires events { task.now.limits.events ≤ MOST_PICKS }

@@ -9,9 +9,10 @@ ghost use Rattle.vest_runs.specs.Order.{HasRoom, end_of, order_made};
 use crate::delivery::is_spent;
 use memory_core::Entry;
 use run_files::{append_order, order_room};
-use std::alloc::{AllocError, Global};
+use std::alloc::Global;
 use std::marker::Model;
 use tie_switch::Processor;
+use vax_form::WantOfMemory;
 
 /// Room for the file of an order, and for the ends of its threads.
 #[derive(Drop)]
@@ -38,7 +39,7 @@ impl OrderRoom {
         threads: usize,
         input: usize,
         entries: usize,
-    ) -> Result<OrderRoom, AllocError>
+    ) -> Result<OrderRoom, WantOfMemory>
         requires { AreFew threads input entries }
         ensures { IfOk result (HasRoom threads input entries) }
     {

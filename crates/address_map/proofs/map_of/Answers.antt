@@ -1,5 +1,6 @@
 use Rattle.std.proofs.Common.{◌∙◌, sym, subst, List}
-use Rattle.address_map.specs.Pairs.{Pair, KeysRise}
+use Rattle.address_map.specs.Pairs.{Pair}
+use Rattle.rising_lists.specs.Rising.{KeysRise}
 use Rattle.address_map.proofs.Showing.{swapped_rise}
 use Rattle.address_map.proofs.map_of.Goals as goal
 

@@ -1,7 +1,7 @@
 use Rattle.std.proofs.Common.{ap, arith, Option}
 use Rattle.std.specs.Option.{option_map}
 use Rattle.address_map.specs.Pairs.{Pair}
-use Rattle.address_map.proofs.Lookups.{find_none}
+use Rattle.rising_lists.proofs.Lookups.{find_none}
 use Rattle.address_map.proofs.beginnings.beginnings.Goals as goal
 
 pub returns : goal.returns

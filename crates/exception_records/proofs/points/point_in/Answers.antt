@@ -2,7 +2,7 @@ use Rattle.std.proofs.Common.{◌<◌, Option, ap, arith, sym, length, rules}
 use Rattle.std.specs.Option.{option_map}
 use Rattle.std.proofs.lemmas.List.Sorted.{answers_always}
 use Rattle.exception_records.specs.Points.{Entry}
-use Rattle.address_map.proofs.Lookups.{searched_at, searched_none}
+use Rattle.rising_lists.proofs.Lookups.{searched_at, searched_none}
 use Rattle.exception_records.proofs.Places.{no_entry}
 use Rattle.exception_records.proofs.points.point_in.Goals as goal
 
