@@ -133,7 +133,7 @@ fn put_all_stops(
     Ok(())
 }
 
-fn put_services(out: &mut Vec<u8>, instrs: &[Instr]) -> Result<(), AllocError>
+fn put_services(out: &mut Vec<u8>, instrs: &[Instr]) -> Result<(), WantOfMemory>
     ensures { OnOk result (out.new.items ≡ out.old.items ++ flat_map service_line instrs.now) }
 {
     for instr in instrs {
@@ -157,8 +157,7 @@ fn put_flow(
     put_opcodes(out, &image.pages, instrs)?;
     put_opens(out, instrs)?;
     put_all_stops(alloc, out, &image.pages, instrs)?;
-    put_services(out, instrs)?;
-    Ok(())
+    put_services(out, instrs)
 }
 
 /// The text of a whole image, of the hints of its translation, of the instructions that can be reached, and of how many

@@ -176,7 +176,7 @@ fn put_stops_at(
     pages: &Pages,
     from: u32,
     addresses: &[u32],
-) -> Result<(), AllocError>
+) -> Result<(), WantOfMemory>
     ensures { OnOk result (out.new.items ≡ out.old.items ++ flat_map (stop_line pages.now from) addresses.now) }
 {
     for address in addresses {
@@ -198,6 +198,5 @@ pub fn put_stops(
         return Ok(());
     }
     let addresses = goes_on(alloc, pages, instr)?;
-    put_stops_at(out, pages, instr.at, &addresses)?;
-    Ok(())
+    put_stops_at(out, pages, instr.at, &addresses)
 }
