@@ -10,7 +10,7 @@ use Rattle.byte_sequences.specs.Instructions.{IsArgument}
 
 -- ---- registers
 pub other : (n k : ℕ) → IsArgument n → 24 < k → eqb n k ≡ false
-other n k a h = let low = a.low in let high = a.high in ne_eqb n k (λ (e : n ≡ k). absurd (omega arith))
+other n k a h = let high = a.high in ne_eqb n k (λ (e : n ≡ k). absurd (omega arith))
 
 -- ---- parts
 -- does the operand lie in one quadword?

@@ -67,29 +67,29 @@ module _ (fetch : Fetch) (terms : Terms) (pc : ℕ) (f : Regs) (place to : ℕ) 
       (record { holds = byte_value b x lt (loaded_whole b (plus (f place) 0 / 8 * 8) lt (omega arith)); fits = omega arith; only = byte_only x })))
 
 -- ---- an operand that may go on in the next quadword, in any piece
-scratch_too : (to n : ℕ) → is_scratch n ≡ true → is_scratch_or to n ≡ true
+pub scratch_too : (to n : ℕ) → is_scratch n ≡ true → is_scratch_or to n ≡ true
 scratch_too to n h = rw h (or-true (eqb n to))
 
-own_too : (to : ℕ) → is_scratch_or to to ≡ true
+pub own_too : (to : ℕ) → is_scratch_or to to ≡ true
 own_too to = rw (eqb_self to) refl
 
 -- its value where it does, by both quadwords
-abbrev value_of_both : (a c q q' : ℕ) → ℕ
+abbrev pub value_of_both : (a c q q' : ℕ) → ℕ
 value_of_both a c q q' = field_of q (a % 8) (8 - a % 8) + field_of q' (next_of a % 8) (c - (8 - a % 8)) * 2 ^ (8 * (8 - a % 8))
 
 -- what is left behind the first load
-abbrev rest : Bool → (a c q : ℕ) → Plan ℕ
+abbrev pub rest : Bool → (a c q : ℕ) → Plan ℕ
 rest true a c q = Over (field_of q (a % 8) c)
 rest false a c q = Access (next_of a / 8 * 8) (λ b. b) (λ q'. Over (value_of_both a c q q'))
 
 -- the registers behind the first load and the first extraction: the flag stands in 26
-record Got (f : Regs) (place c to told q : ℕ) (g : Regs) : Type 0 where
+pub record Got (f : Regs) (place c to told q : ℕ) (g : Regs) : Type 0 where
   pub only : Only (is_scratch_or to) f g
   pub same : g place ≡ f place
   pub low : g 25 ≡ ext_low (2 ^ c - 1) q (f place)
   pub flag : g 26 ≡ told
 
-module _ (whole : Piece) (f : Regs) (place c to : ℕ) (is_count : IsCount c) (a_place : IsArgument place) (fits : f place < 2 ^ 32) (within : f place + c ≤ 2 ^ 32)
+module _ (whole : Piece) (Ends : ℕ → Regs → Type 0) (f : Regs) (place c to : ℕ) (is_count : IsCount c) (a_place : IsArgument place) (fits : f place < 2 ^ 32) (within : f place + c ≤ 2 ^ 32)
     (pages : All (λ part. whole.terms.allowed false (quad_of_part part) ≡ true) (parts_by (lies_within (f place) c) (f place) c)) (kind : whole.terms.kinds Load 8 ≡ true) where
   pages_of : (b : Bool) → lies_within (f place) c ≡ b → All (λ part. whole.terms.allowed false (quad_of_part part) ≡ true) (parts_by b (f place) c)
   pages_of b e = subst (λ b. All (λ part. whole.terms.allowed false (quad_of_part part) ≡ true) (parts_by b (f place) c)) e pages
@@ -115,14 +115,14 @@ module _ (whole : Piece) (f : Regs) (place c to : ℕ) (is_count : IsCount c) (a
         flag = refl;
       }
 
-  loads : (most need pc : ℕ) (before : Regs) (b : Bool) → lies_within (f place) c ≡ b → Only (is_scratch_or to) f before → before place ≡ f place
+  pub loads : (most need pc : ℕ) (before : Regs) (b : Bool) → lies_within (f place) c ≡ b → Only (is_scratch_or to) f before → before place ≡ f place
       → HasAt whole.fetch pc (first_read place c) → whole.from ≤ pc → pc + 2 ≤ whole.to
-      → ((g : Regs) (q : ℕ) → q < 2 ^ 64 → Got f place c to (before 26) q g → Always whole (Holds f to c) most need Plain (at_place g (pc + 1 + 1)) (rest b (f place) c q))
-      → Always whole (Holds f to c) most (1 + need + 1) Plain (at_place before pc) (Access (f place / 8 * 8) (λ q. q) (rest b (f place) c))
+      → ((g : Regs) (q : ℕ) → q < 2 ^ 64 → Got f place c to (before 26) q g → Always whole Ends most need Plain (at_place g (pc + 1 + 1)) (rest b (f place) c q))
+      → Always whole Ends most (1 + need + 1) Plain (at_place before pc) (Access (f place / 8 * 8) (λ q. q) (rest b (f place) c))
   loads most need pc before b e only same has from room behind =
-      load whole (Holds f to c) most (1 + need) (at_place before pc) _ (first_of before) 8 (f place / 8 * 8) (λ q. q) (rest b (f place) c) has.0 refl from (omega arith) (omega arith) (rw same (omega arith)) (may_first b e) kind (λ q. refl)
+      load whole Ends most (1 + need) (at_place before pc) _ (first_of before) 8 (f place / 8 * 8) (λ q. q) (rest b (f place) c) has.0 refl from (omega arith) (omega arith) (rw same (omega arith)) (may_first b e) kind (λ q. refl)
       (λ q lt.
-      operates whole (Holds f to c) most need Plain extracts (put before 25 (field_of q (first_of before % 8) 8)) (pc + 1) (rest b (f place) c q) (has.1.0, tt) refl (omega arith) (omega arith)
+      operates whole Ends most need Plain extracts (put before 25 (field_of q (first_of before % 8) 8)) (pc + 1) (rest b (f place) c q) (has.1.0, tt) refl (omega arith) (omega arith)
       (behind (effects extracts (put before 25 (field_of q (first_of before % 8) 8))) q lt
       (got_is before q (field_of q (first_of before % 8) 8) only same (loaded_whole q (first_of before) lt (omega arith)))))
 
@@ -157,16 +157,16 @@ module _ (whole : Piece) (f : Regs) (place c to : ℕ) (is_count : IsCount c) (a
   value_fits q q' gt lt =
       subst (λ v. v < 2 ^ (8 * c)) (crossing_is is_count q q' lt (f place % 8) (omega arith) gt ∙ value_is q q' gt lt) (mod_below _ (2 ^ (8 * c)) (pow_pos (8 * c)))
 
-  crosses : (most need pc r : ℕ) (g : Regs) (q told : ℕ) → eqb r 31 ≡ false → is_scratch_or to r ≡ true → lies_within (f place) c ≡ false → q < 2 ^ 64 → Got f place c to told q g
+  pub crosses : (most need pc r : ℕ) (g : Regs) (q told : ℕ) → eqb r 31 ≡ false → is_scratch_or to r ≡ true → lies_within (f place) c ≡ false → q < 2 ^ 64 → Got f place c to told q g
       → HasAt whole.fetch pc (second_read place c r) → whole.from ≤ pc → pc + 3 ≤ whole.to
-      → ((h : Regs) (v : ℕ) → v < 2 ^ (8 * c) → Only (is_scratch_or to) f h → h r ≡ v → Always whole (Holds f to c) most need Plain (at_place h (pc + 1 + 2)) (Over v))
-      → Always whole (Holds f to c) most (2 + need + 1) Plain (at_place g pc) (rest false (f place) c q)
+      → ((h : Regs) (v : ℕ) → v < 2 ^ (8 * c) → Only (is_scratch_or to) f h → h r ≡ v → Always whole Ends most need Plain (at_place h (pc + 1 + 2)) (Over v))
+      → Always whole Ends most (2 + need + 1) Plain (at_place g pc) (rest false (f place) c q)
   crosses most need pc r g q told named may_r e lt got has from room behind =
       let gt = is_across (f place) c e in
-      load whole (Holds f to c) most (2 + need) (at_place g pc) _ (second_of g) 8 (next_of (f place) / 8 * 8) (λ b. b) _ has.0 refl from (omega arith) (omega arith)
+      load whole Ends most (2 + need) (at_place g pc) _ (second_of g) 8 (next_of (f place) / 8 * 8) (λ b. b) _ has.0 refl from (omega arith) (omega arith)
       (rw (second_quad g got.same gt) (omega arith)) (pages_of false e 1 (0, 0) (lit< tt)) kind (λ b. refl)
       (λ b lt'.
-      operates whole (Holds f to c) most need Plain (joins r) (put g 26 (field_of b (second_of g % 8) 8)) (pc + 1) _ (has.1.0, (has.1.1.0, tt)) refl (omega arith) (omega arith)
+      operates whole Ends most need Plain (joins r) (put g 26 (field_of b (second_of g % 8) 8)) (pc + 1) _ (has.1.0, (has.1.1.0, tt)) refl (omega arith) (omega arith)
       (behind (effects (joins r) (put g 26 (field_of b (second_of g % 8) 8))) (value_of_both (f place) c q b) (value_fits q b gt lt)
       (effects_only (joins r) (is_scratch_or to) f (put g 26 (field_of b (second_of g % 8) 8)) (rw (scratch_too to 26 refl, may_r) refl) (put_only (is_scratch_or to) f g 26 (field_of b (second_of g % 8) 8) (scratch_too to 26 refl) got.only))
       (joined_is g q b (field_of b (second_of g % 8) 8) r told named gt lt got (loaded_whole b (second_of g) lt' (omega arith)))))
@@ -210,13 +210,13 @@ module _ (whole : Piece) (pc : ℕ) (f : Regs) (place to : ℕ) (a_place : IsArg
       let flag : g 26 ≡ one_if (lies_within (f place) 2) = got.flag ∙ test_is in
       let there : pc + 2 + 1 + 1 + 1 + 1 + 2 ≡ pc + 8 = omega arith in
       passes whole (Holds f to 2) most 4 Plain (at_place g (pc + 2 + 1 + 1)) Bne 26 (pos 3) (rest false (f place) 2 q) has_behind.1.1.0 (rw (flag, e) refl) (omega arith) (omega arith)
-      (crosses whole f place 2 to c2 a_place fits within pages kind most 1 (pc + 2 + 1 + 1 + 1) 25 g q (tested 26) refl (scratch_too to 25 refl) e lt got
+      (crosses whole (Holds f to 2) f place 2 to c2 a_place fits within pages kind most 1 (pc + 2 + 1 + 1 + 1) 25 g q (tested 26) refl (scratch_too to 25 refl) e lt got
       (has_behind.1.1.1.0, (has_behind.1.1.1.1.0, (has_behind.1.1.1.1.1.0, tt))) (omega arith) (omega arith)
       (λ h v range o is. subst (λ z. Always whole (Holds f to 2) most 1 Plain (at_place h z) (Over v)) (sym there) (moves most h v range o is)))
 
   loaded : (most : ℕ) (b : Bool) → lies_within (f place) 2 ≡ b → Always whole (Holds f to 2) most 7 Plain (at_place tested (pc + 2)) (Access (f place / 8 * 8) (λ q. q) (rest b (f place) 2))
   loaded most b e =
-      loads whole f place 2 to c2 a_place fits within pages kind most 5 (pc + 2) tested b e only_tested place_tested (has_behind.0, (has_behind.1.0, tt)) (omega arith) (omega arith)
+      loads whole (Holds f to 2) f place 2 to c2 a_place fits within pages kind most 5 (pc + 2) tested b e only_tested place_tested (has_behind.0, (has_behind.1.0, tt)) (omega arith) (omega arith)
       (λ g q lt got. branch most q g b e lt got)
 
   pub word_reads : (most : ℕ) → Always whole (Holds f to 2) most 9 Plain (at_place f pc) (read_plan (parts_by (lies_within (f place) 2) (f place) 2))
@@ -236,7 +236,7 @@ unfolding spread
 long_kept n = and_mask n 32
 
 -- which LDL has extended
-long_extended : (n : ℕ) → n < 2 ^ 32 → sign_extended n 32 % 2 ^ 32 ≡ n
+pub long_extended : (n : ℕ) → n < 2 ^ 32 → sign_extended n 32 % 2 ^ 32 ≡ n
 long_extended n lt = grind (arith, nat_tests)
 
 module _ (fetch : Fetch) (terms : Terms) (pc : ℕ) (f : Regs) (place to : ℕ) (a_place : IsArgument place) (a_to : IsArgument to) (low : pc + 12 ≤ 2 ^ 23) (fits : f place < 2 ^ 32) (may : MayRead loaded_bytes terms (f place) 4) (has : HasAt fetch pc (longword_read place to)) where
@@ -316,7 +316,7 @@ module _ (fetch : Fetch) (terms : Terms) (pc : ℕ) (f : Regs) (place to : ℕ) 
       let behind : pc + 1 + 1 + 1 + 1 + 1 + 1 + 1 + 2 ≡ pc + 9 = omega arith in
       let there : target_of (pc + 9) (pos 1) ≡ pc + 9 + 1 + 1 = omega arith in
       passes longs (Holds f to 4) most 5 Plain (at_place g (pc + 1 + 1 + 1 + 1 + 1)) Beq 26 (pos 5) (rest false (f place) 4 q) has.1.1.1.1.1.0 (ap (λ x. x == 0) got.flag ∙ third_is some ∙ e) (omega arith) (omega arith)
-      (crosses longs f place 4 to c4 a_place fits may.within may.pages kind most 2 (pc + 1 + 1 + 1 + 1 + 1 + 1) 25 g q (third_bit 26) refl (scratch_too to 25 refl) e lt got
+      (crosses longs (Holds f to 4) f place 4 to c4 a_place fits may.within may.pages kind most 2 (pc + 1 + 1 + 1 + 1 + 1 + 1) 25 g q (third_bit 26) refl (scratch_too to 25 refl) e lt got
       (has.1.1.1.1.1.1.0, (has.1.1.1.1.1.1.1.0, (has.1.1.1.1.1.1.1.1.0, tt))) (omega arith) (omega arith)
       (λ h v range o is. subst (λ z. Always longs (Holds f to 4) most 2 Plain (at_place h z) (Over v)) (sym behind)
       (goes longs (Holds f to 4) most 1 Plain (at_place h (pc + 9)) (at_place h (pc + 9 + 1 + 1)) (Branch Br 31 (pos 1)) (Over v) has_end.0 (rw there refl) (omega arith) (omega arith) (omega arith)
@@ -325,7 +325,7 @@ module _ (fetch : Fetch) (terms : Terms) (pc : ℕ) (f : Regs) (place to : ℕ) 
   long_loaded : (most : ℕ) (b : Bool) → 0 < f place % 4 → terms.kinds Load 8 ≡ true → lies_within (f place) 4 ≡ b
       → Always longs (Holds f to 4) most 8 Plain (at_place third_bit (pc + 1 + 1 + 1)) (Access (f place / 8 * 8) (λ q. q) (rest b (f place) 4))
   long_loaded most b some kind e =
-      loads longs f place 4 to c4 a_place fits may.within may.pages kind most 6 (pc + 1 + 1 + 1) third_bit b e only_third place_third (has.1.1.1.0, (has.1.1.1.1.0, tt)) (omega arith) (omega arith)
+      loads longs (Holds f to 4) f place 4 to c4 a_place fits may.within may.pages kind most 6 (pc + 1 + 1 + 1) third_bit b e only_third place_third (has.1.1.1.0, (has.1.1.1.1.0, tt)) (omega arith) (omega arith)
       (λ g q lt got. long_branch most q g b some kind e lt got)
 
   unaligned_long : (most : ℕ) (b : Bool) → 0 < f place % 4 → terms.kinds Load 8 ≡ true → lies_within (f place) 4 ≡ b → Always longs (Holds f to 4) most 8 Plain (at_place third_bit (pc + 1 + 1 + 1)) (long_plan b)
@@ -395,9 +395,9 @@ module _ (fetch : Fetch) (terms : Terms) (pc : ℕ) (f : Regs) (place to : ℕ) 
   both_quads most e =
       let behind : pc + 1 + 1 + 1 + 1 + 1 + 2 ≡ pc + 7 = omega arith in
       let there : target_of (pc + 7) (pos 1) ≡ pc + 9 = omega arith in
-      loads quads f place 8 to c8 a_place fits may.within may.pages may.loads most 4 (pc + 1 + 1) three_bits false e only_three place_three (has.1.1.0, (has.1.1.1.0, tt)) (omega arith) (omega arith)
+      loads quads (Holds f to 8) f place 8 to c8 a_place fits may.within may.pages may.loads most 4 (pc + 1 + 1) three_bits false e only_three place_three (has.1.1.0, (has.1.1.1.0, tt)) (omega arith) (omega arith)
       (λ g q lt got.
-      crosses quads f place 8 to c8 a_place fits may.within may.pages may.loads most 1 (pc + 1 + 1 + 1 + 1) to g q (three_bits 26) (other to 31 a_to (lit< tt)) (own_too to) e lt got
+      crosses quads (Holds f to 8) f place 8 to c8 a_place fits may.within may.pages may.loads most 1 (pc + 1 + 1 + 1 + 1) to g q (three_bits 26) (other to 31 a_to (lit< tt)) (own_too to) e lt got
       (has.1.1.1.1.0, (has.1.1.1.1.1.0, (has.1.1.1.1.1.1.0, tt))) (omega arith) (omega arith)
       (λ h v range o is. subst (λ z. Always quads (Holds f to 8) most 1 Plain (at_place h z) (Over v)) (sym behind)
       (goes quads (Holds f to 8) most 0 Plain (at_place h (pc + 7)) (at_place h (pc + 9)) (Branch Br 31 (pos 1)) (Over v) has_quad_end.0 (rw there refl) (omega arith) (omega arith) (omega arith)

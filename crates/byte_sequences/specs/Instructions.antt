@@ -1,16 +1,15 @@
 -- Which registers the sequences take and change.
-use Rattle.std.specs.Prelude.{ℕ, ◌<◌, ◌≤◌, ◌==◌, ◌||◌, not, Bool, true, false}
+use Rattle.std.specs.Prelude.{ℕ, ◌<◌, ◌==◌, ◌||◌, not, Bool, true, false}
 use Rattle.alpha_encode.specs.declared.instr.MemoryOp.{MemoryOp}
 use Rattle.alpha_encode.specs.declared.instr.MemoryOp.TheVariants.{Stb, Stw, Stl, Stq}
 use Rattle.alpha_encode.specs.declared.instr.AlphaInstr.{AlphaInstr}
 use Rattle.alpha_encode.specs.declared.instr.AlphaInstr.TheVariants.{Memory, Branch, Operate, Jump, Pal}
-use Rattle.alpha_encode.specs.Registers.{TEMPORARIES, ZERO}
+use Rattle.alpha_encode.specs.Registers.{ZERO}
 use Rattle.alpha_encode.specs.declared.registers.TheConstants.{QUAD, BYTES, QUAD_ADDRESS}
 use Rattle.alpha_meaning.specs.Act.{links}
 
--- R21 to R24 hold the address and the value
+-- R0 to R24 may hold the address and the value
 pub record IsArgument (register : ℕ) : Type 0 where
-  pub low : TEMPORARIES ≤ register
   pub high : register < QUAD
 
 -- R25 to R27 are scratch

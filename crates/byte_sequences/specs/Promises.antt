@@ -7,6 +7,7 @@ use Rattle.alpha_meaning.specs.Pieces.{Fetch, Terms, Plan, Plain, Runs, HasAt, p
 use Rattle.micro_ops.specs.declared.program.LockedOp.{LockedOp}
 use Rattle.micro_ops.specs.declared.program.LockedOp.TheVariants.{AddWord, SetBit, ClearBit}
 use Rattle.micro_ops.specs.Meaning.{locked_count}
+use Rattle.vt_words.specs.Quad.{sign_extended}
 use Rattle.vax_form.specs.Parts.{parts}
 use Rattle.byte_sequences.specs.Instructions.{is_scratch, is_scratch_or}
 use Rattle.byte_sequences.specs.Words.{by_count}
@@ -79,6 +80,12 @@ pub record Holds (before : Regs) (to count value : ℕ) (regs : Regs) : Type 0 w
   pub fits : value < 2 ^ (8 * count)
   pub only : Only (is_scratch_or to) before regs
 
+-- the longword is the low one of the register, which is extended with its sign, and only scratch has changed beside it
+pub record HoldsExtended (before : Regs) (to value : ℕ) (regs : Regs) : Type 0 where
+  pub holds : regs to % 2 ^ 32 ≡ value
+  pub extended : sign_extended (regs to) 32 ≡ regs to
+  pub only : Only (is_scratch_or to) before regs
+
 -- only scratch has changed
 pub record Keeps (before : Regs) (done : Unit {0}) (regs : Regs) : Type 0 where
   pub only : Only is_scratch before regs
@@ -96,6 +103,13 @@ ReadsPlan loaded place count to words =
     (fetch : Fetch) (terms : Terms) (first : ℕ) (regs : Regs)
     → first + length words ≤ most_words → MayRead loaded terms (regs place) count → HasAt fetch first words
     → RunsAt fetch terms first words (Holds regs to count) regs (read_plan (parts (regs place) count))
+
+-- reads the longword at the address in `place` into `to`, extended with its sign
+abbrev pub ReadsExtended : (place to : ℕ) → List AlphaInstr → Type 0
+ReadsExtended place to words =
+    (fetch : Fetch) (terms : Terms) (first : ℕ) (regs : Regs)
+    → first + length words ≤ most_words → MayRead loaded_bytes terms (regs place) 4 → HasAt fetch first words
+    → RunsAt fetch terms first words (HoldsExtended regs to) regs (read_plan (parts (regs place) 4))
 
 -- writes the low bytes of `from` to the operand at the address in `place`
 abbrev pub WritesPlan : (stored : (address count : ℕ) → Option ℕ) → (place count from : ℕ) → List AlphaInstr → Type 0

@@ -5,7 +5,7 @@ use Rattle.std.specs.Prelude.{ℕ, pos, ◌-◌, ◌==◌, List, [], ◌∷◌, 
 use Rattle.alpha_encode.specs.declared.instr.MemoryOp.TheVariants.{LdqU, Ldbu, Ldwu, Ldl, Ldq, Stb, Stw, Stl, Stq}
 use Rattle.alpha_encode.specs.declared.instr.BranchOp.TheVariants.{Br, Beq, Blbs, Bne}
 use Rattle.alpha_encode.specs.declared.instr.OperateOp.{OperateOp}
-use Rattle.alpha_encode.specs.declared.instr.OperateOp.TheVariants.{Extbl, Extwl, Extll, Extql, Extwh, Extlh, Extqh, Mskbl, Mskwl, Mskll, Mskql, Mskwh, Msklh, Mskqh, Insbl, Inswl, Insll, Insql, Inswh, Inslh, Insqh, Bis, Bic, And, Cmpult, Cmpeq, Addq, Srl, Sll, Zapnot}
+use Rattle.alpha_encode.specs.declared.instr.OperateOp.TheVariants.{Extbl, Extwl, Extll, Extql, Extwh, Extlh, Extqh, Mskbl, Mskwl, Mskll, Mskql, Mskwh, Msklh, Mskqh, Insbl, Inswl, Insll, Insql, Inswh, Inslh, Insqh, Bis, Bic, And, Cmpult, Cmpeq, Addl, Addq, Srl, Sll, Zapnot}
 use Rattle.alpha_encode.specs.declared.instr.Second.TheVariants.{Register, Literal}
 use Rattle.alpha_encode.specs.declared.instr.AlphaInstr.{AlphaInstr}
 use Rattle.alpha_encode.specs.declared.instr.AlphaInstr.TheVariants.{Memory, Branch, Operate}
@@ -75,6 +75,20 @@ longword_read place to =
     ++ (Branch Br ZERO (pos 1)
     ∷ Memory Ldl QUAD place (pos 0)
     ∷ Operate Zapnot QUAD (Literal 0x0f) to
+    ∷ []))))
+
+-- The same, but for the sign: what is read is extended with it.
+abbrev pub extended_read : (place to : ℕ) → List AlphaInstr
+extended_read place to =
+    Operate And place (Literal 3) QUAD
+    ∷ Branch Beq QUAD (pos 9)
+    ∷ Operate And place (Literal 4) BYTES
+    ∷ (first_read place 4
+    ++ (Branch Beq BYTES (pos 3)
+    ∷ (second_read place 4 QUAD
+    ++ (Operate Addl QUAD (Literal 0) to
+    ∷ Branch Br ZERO (pos 1)
+    ∷ Memory Ldl to place (pos 0)
     ∷ []))))
 
 -- an aligned quadword by LDQ; another goes on in the next one

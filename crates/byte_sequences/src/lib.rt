@@ -9,5 +9,5 @@ mod reading;
 mod writing;
 
 pub use locked::locked_words;
-pub use reading::{bw_read_words, read_words};
+pub use reading::{bw_read_words, extended_read_words, read_words};
 pub use writing::{bw_write_words, write_words};

@@ -4,8 +4,8 @@ ghost use Rattle.std.specs.List.{list_all};
 ghost use Rattle.vt_words.specs.Quad.{IsCount};
 ghost use Rattle.alpha_encode.specs.Words.{IsEncodable};
 ghost use Rattle.byte_sequences.specs.Instructions.{IsArgument, is_scratch_or, writes_only};
-ghost use Rattle.byte_sequences.specs.Words.{byte_read, word_read, longword_read, quadword_read, read_code, bw_word_read, bw_read_code};
-ghost use Rattle.byte_sequences.specs.Promises.{ReadsPlan, loaded_bytes, bw_loaded_bytes, most_read_words};
+ghost use Rattle.byte_sequences.specs.Words.{byte_read, word_read, longword_read, quadword_read, extended_read, read_code, bw_word_read, bw_read_code};
+ghost use Rattle.byte_sequences.specs.Promises.{ReadsPlan, ReadsExtended, loaded_bytes, bw_loaded_bytes, most_read_words};
 
 use alpha_encode::registers::{BYTES, QUAD, ZERO};
 use alpha_encode::{
@@ -60,6 +60,26 @@ fn longword_read(alloc: Global, place: u8, to: u8) -> Result<Vec<AlphaInstr>, Al
     ]?)
 }
 
+/// The same, but for the sign: what is read is extended with it.
+fn extended_read(alloc: Global, place: u8, to: u8) -> Result<Vec<AlphaInstr>, AllocError>
+    ensures { IfOk result (λ words. words.items ≡ extended_read place to) }
+{
+    Ok(vec![in alloc;
+        operate_by(OperateOp::And, place, 3, QUAD),
+        branch(BranchOp::Beq, QUAD, 9),
+        operate_by(OperateOp::And, place, 4, BYTES),
+        memory(MemoryOp::LdqU, QUAD, place, 0),
+        operate(OperateOp::Extll, QUAD, place, QUAD),
+        branch(BranchOp::Beq, BYTES, 3),
+        memory(MemoryOp::LdqU, BYTES, place, 3),
+        operate(OperateOp::Extlh, BYTES, place, BYTES),
+        operate(OperateOp::Bis, QUAD, BYTES, QUAD),
+        operate_by(OperateOp::Addl, QUAD, 0, to),
+        branch(BranchOp::Br, ZERO, 1),
+        memory(MemoryOp::Ldl, to, place, 0),
+    ]?)
+}
+
 /// An aligned quadword is loaded as a whole.
 fn quadword_read(alloc: Global, place: u8, to: u8) -> Result<Vec<AlphaInstr>, AllocError>
     ensures { IfOk result (λ words. words.items ≡ quadword_read place to) }
@@ -107,6 +127,25 @@ pub fn read_words(
     ensures words { IfOk result (λ words. words.items ≡ read_code place count to) }
 {
     Ok(read_code(alloc, place, count, to)?)
+}
+
+/// The words that read the longword at the address in `place` into `to`, extended with its sign. They are the same with the
+/// byte-word extension.
+pub fn extended_read_words(
+    alloc: Global,
+    place: u8,
+    to: u8,
+) -> Result<Vec<AlphaInstr>, WantOfMemory>
+    requires place { IsArgument place }
+    requires to { IsArgument to }
+    // One load for each part, and the longword in the register, wherever the words stand.
+    ensures reads { IfOk result (λ words. ReadsExtended place to words.items) }
+    ensures short { IfOk result (λ words. length words.items ≤ most_read_words 4) }
+    ensures encodable { IfOk result (λ words. All IsEncodable words.items) }
+    ensures writes { IfOk result (λ words. list_all (writes_only (is_scratch_or to)) words.items ≡ true) }
+    ensures words { IfOk result (λ words. words.items ≡ extended_read place to) }
+{
+    Ok(extended_read(alloc, place, to)?)
 }
 
 /// A word at an even address is loaded as a whole.

@@ -190,7 +190,7 @@ module _ (p : Placement) (site : Site) (table : IsPageTable p.pages) (bytes_writ
       → Always p None (length (read_by site.byte_word (holder place) count (holder to)) + need) (at_place regs pc) (tree onward (read_parts (parts (standing.temps place) count) on))
   reads_operand need pc to place count rest known standing regs on w some fits a_place a_to is h behind =
       let x = all_three (is_count count) (are_apart to place) (reference_fits known place count false) fits in
-      let low = a_to.low in
+      let low : 21 ≤ 21 + to = omega arith in
       let high = a_to.high in
       let below : 21 + to ≤ 24 = omega arith in
       let place_high = a_place.high in
@@ -257,7 +257,7 @@ module _ (p : Placement) (site : Site) (table : IsPageTable p.pages) (bytes_writ
       (tree onward (Ask (record { address = standing.temps place; count = locked_count kind; kind = locked_kind kind (standing.temps source) }) (λ reply. on (reply % 2 ^ (8 * locked_count kind)))))
   locks_operand need pc to place kind source rest known standing regs on w some fits a_place a_source a_to place_apart source_apart page h behind =
       let x = all_five (are_apart to place) (are_apart place source) (are_apart source to) (holds known source) (reference_fits known place (locked_count kind) true) fits in
-      let low = a_to.low in
+      let low : 21 ≤ 21 + to = omega arith in
       let high = a_to.high in
       let below : 21 + to ≤ 24 = omega arith in
       let place_high = a_place.high in

@@ -122,7 +122,7 @@ module _ (site : Site) where
           let place_high = has.0.high in
           let to_high = has.1.high in
           let to_below : 21 + to ≤ 24 = omega arith in
-          faulting_row site (count_of (Read to place count)) (read_by site.byte_word (21 + place) count (21 + to)) (read_encodable site.byte_word (21 + place) count (21 + to) has.2 (omega arith) (omega arith)) (read_own (21 + to) has.1.low to_below site.byte_word (21 + place) count has.2) (read_short site.byte_word (21 + place) count (21 + to) has.2)
+          faulting_row site (count_of (Read to place count)) (read_by site.byte_word (21 + place) count (21 + to)) (read_encodable site.byte_word (21 + place) count (21 + to) has.2 (omega arith) (omega arith)) (read_own (21 + to) (omega arith) to_below site.byte_word (21 + place) count has.2) (read_short site.byte_word (21 + place) count (21 + to) has.2)
       one (Commit register source) is has = absurd (cc is)
       one (Refuse when) is has = absurd (cc is)
       one (Write place count source) is has = absurd (cc is)
@@ -172,7 +172,7 @@ module _ (site : Site) where
   counted_lines : (stack : Bool) → Faulting site 24 (count_lines site stack)
   counted_lines true =
       faulting_row site 24 (write_by site.byte_word 23 4 21)
-      (write_encodable site.byte_word 23 4 21 c4 (record { low = lit≤ tt; high = lit≤ tt }) (record { low = lit≤ tt; high = lit≤ tt })) (write_own site.byte_word 23 4 21 c4) (write_short site.byte_word 23 4 21 c4)
+      (write_encodable site.byte_word 23 4 21 c4 (record { high = lit≤ tt }) (record { high = lit≤ tt })) (write_own site.byte_word 23 4 21 c4) (write_short site.byte_word 23 4 21 c4)
   counted_lines false = (no_front site, refl, lit≤ tt)
 
   aligned_line : Faulting site 1 (plain align_frame ∷ [])

@@ -61,7 +61,7 @@ among a b e =
     let x = all_three (nat_lt a 4) (nat_lt b 4) (not (a == b)) e in
     let a_lt = ltb-true a 4 x.0 in
     let b_lt = ltb-true b 4 x.1 in
-    (record { low = omega arith; high = omega arith }, record { low = omega arith; high = omega arith }, not-true (a == b) x.2)
+    (record { high = omega arith }, record { high = omega arith }, not-true (a == b) x.2)
 
 turned : (a b : ℕ) → (a == b) ≡ false → (b == a) ≡ false
 turned a b e = grind (arith, nat_tests, e)

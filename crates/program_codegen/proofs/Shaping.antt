@@ -155,7 +155,7 @@ module _ (site : Site) (codes : List AlphaInstr) (after_fits : site.after < 2 ^ 
       let place_high = words.0.0.high in
       let to_high = words.0.1.high in
       let to_below : 21 + to ≤ 24 = omega arith in
-      let front = faulting_row site (count_of (Read to place count)) (read_by site.byte_word (21 + place) count (21 + to)) (read_encodable site.byte_word (21 + place) count (21 + to) words.0.2 (omega arith) (omega arith)) (read_own (21 + to) words.0.1.low to_below site.byte_word (21 + place) count words.0.2) (read_short site.byte_word (21 + place) count (21 + to) words.0.2) in
+      let front = faulting_row site (count_of (Read to place count)) (read_by site.byte_word (21 + place) count (21 + to)) (read_encodable site.byte_word (21 + place) count (21 + to) words.0.2 (omega arith) (omega arith)) (read_own (21 + to) (omega arith) to_below site.byte_word (21 + place) count words.0.2) (read_short site.byte_word (21 + place) count (21 + to) words.0.2) in
       free_front site codes (addresses_of site.after program) known.changed (count_of (Read to place count)) (program_words site.sources program + 59) _ _ (program_lines site codes program) (not-true known.changed z.0) front.0 front.1 front.2 (omega arith)
       (subst (λ changed. ShapeOf changed program) same.changed (program_shape program behind (same.ended ∙ off) x.1 words.1 (λ c. let y = quiet (sym same.changed ∙ c) in (same.codes ∙ y.0, same.psw ∙ y.1))))
   program_shape (Write place count source ∷ program) known off e words quiet =
@@ -175,7 +175,7 @@ module _ (site : Site) (codes : List AlphaInstr) (after_fits : site.after < 2 ^ 
       let source_high = words.0.1.high in
       let to_high = words.0.2.high in
       let to_below : 21 + to ≤ 24 = omega arith in
-      let front = faulting_row site 12 (locked_code kind (21 + place) (21 + source) (21 + to)) (locked_encodable kind (21 + place) (21 + source) (21 + to) (omega arith) (omega arith) (omega arith)) (locked_own (21 + to) words.0.2.low to_below (21 + place) (21 + source) kind) (locked_short kind (21 + place) (21 + source) (21 + to)) in
+      let front = faulting_row site 12 (locked_code kind (21 + place) (21 + source) (21 + to)) (locked_encodable kind (21 + place) (21 + source) (21 + to) (omega arith) (omega arith) (omega arith)) (locked_own (21 + to) (omega arith) to_below (21 + place) (21 + source) kind) (locked_short kind (21 + place) (21 + source) (21 + to)) in
       free_front site codes (addresses_of site.after program) known.changed 12 (program_words site.sources program + 59) _ _ (program_lines site codes program) (not-true known.changed z.0) front.0 front.1 front.2 (omega arith)
       (subst (λ changed. ShapeOf changed program) same.changed (program_shape program behind (same.ended ∙ off) x.1 words.1 (λ c. let y = quiet (sym same.changed ∙ c) in (same.codes ∙ y.0, same.psw ∙ y.1))))
   program_shape (Commit number source ∷ program) known off e words quiet =
