@@ -53,7 +53,7 @@ use Rattle.program_codegen.proofs.Stores.{loads_of, loaded_of, stores_of, stored
 use Rattle.program_codegen.proofs.Operands.{count_some, IsUsable, usable, may_read, may_write, may_lock, begins_read, begins_write, begins_locked}
 
 -- ---- registers
-longword_value : (h : Holding) (v r : ℕ) → is_longword h ≡ true → HoldsAs h v r → (r ≡ v) × (v < 2 ^ 32)
+pub longword_value : (h : Holding) (v r : ℕ) → is_longword h ≡ true → HoldsAs h v r → (r ≡ v) × (v < 2 ^ 32)
 longword_value Nothing v r e h = absurd (cc e)
 longword_value Wide v r e h = absurd (cc e)
 longword_value Longword v r e h = h
@@ -72,16 +72,16 @@ written_changes known to holding =
     let x = write_changes to holding known in
     record { changed = x.changed; committed = x.committed; codes = x.codes; psw = x.psw; ended = x.ended }
 
-kept_not_27 : (n : ℕ) → is_kept n ≡ true → (n == 27) ≡ false
+pub kept_not_27 : (n : ℕ) → is_kept n ≡ true → (n == 27) ≡ false
 kept_not_27 n e = grind (arith, nat_tests, e)
 
-kept_not_scratch : (n : ℕ) → is_kept n ≡ true → is_scratch n ≡ false
+pub kept_not_scratch : (n : ℕ) → is_kept n ≡ true → is_scratch n ≡ false
 kept_not_scratch n e = grind (arith, nat_tests, e)
 
-kept_not_scratch_or : (to n : ℕ) → 21 ≤ to → to ≤ 24 → is_kept n ≡ true → is_scratch_or to n ≡ false
+pub kept_not_scratch_or : (to n : ℕ) → 21 ≤ to → to ≤ 24 → is_kept n ≡ true → is_scratch_or to n ≡ false
 kept_not_scratch_or to n low high e = grind (arith, nat_tests, e)
 
-zero_not_scratch_or : (to : ℕ) → 21 ≤ to → to ≤ 24 → is_scratch_or to 31 ≡ false
+pub zero_not_scratch_or : (to : ℕ) → 21 ≤ to → to ≤ 24 → is_scratch_or to 31 ≡ false
 zero_not_scratch_or to low high = grind (arith, nat_tests)
 
 temp_not_scratch : (temp : ℕ) → temp < 4 → is_scratch (21 + temp) ≡ false
@@ -94,7 +94,7 @@ apart_of : (a b : ℕ) → (a == b) ≡ false → a ≢ b
 apart_of a b e is = let same : (a == b) ≡ true = grind (arith, nat_tests) in absurd (cc (sym same ∙ e))
 
 -- ---- a check
-is_probed : (count : ℕ) → IsCount count → (write : Bool) (site : Site) (regs : Regs) → count ≡ probe_count (probing site count write) regs
+pub is_probed : (count : ℕ) → IsCount count → (write : Bool) (site : Site) (regs : Regs) → count ≡ probe_count (probing site count write) regs
 is_probed count c1 write site regs = refl
 is_probed count c2 write site regs = refl
 is_probed count c4 write site regs = refl
@@ -169,7 +169,7 @@ place_usable p site known standing regs place count write lt fits h =
     let v = longword_value (held known place) (standing.temps place) (regs (21 + place)) y.1 (h.temps place lt) in
     (usable p.pages known.checked standing.temps place count write v.1 x.1 h.checked, v.0)
 
-read_holds : (count value r : ℕ) → IsCount count → r ≡ value → value < 2 ^ (8 * count) → HoldsAs (holding_of (nat_le count 4)) value r
+pub read_holds : (count value r : ℕ) → IsCount count → r ≡ value → value < 2 ^ (8 * count) → HoldsAs (holding_of (nat_le count 4)) value r
 read_holds count value r c1 e lt = (e, omega arith)
 read_holds count value r c2 e lt = (e, omega arith)
 read_holds count value r c4 e lt = (e, lt)

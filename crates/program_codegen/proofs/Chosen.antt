@@ -22,18 +22,19 @@ use Rattle.micro_ops.specs.declared.program.Micro.TheVariants.{Compute, Probe, R
 use Rattle.block_law.specs.CodeWords.{may_be_written}
 use Rattle.block_law.specs.Placements.{Placement}
 use Rattle.block_law.proofs.Rules.{Always}
+use Rattle.program_codegen.proofs.HomeFronts.{reached_starts}
 use Rattle.program_codegen.specs.declared.homes.Homes.{Homes}
 use Rattle.program_codegen.specs.declared.lines.Line.{Line}
 use Rattle.program_codegen.specs.declared.points.Site.{Site}
 use Rattle.program_codegen.specs.Blocks.{block_lines, chosen_lines}
-use Rattle.program_codegen.specs.Homes.{choice_lines, direct_end, direct_lines, direct_step, end_at, end_words, home_of, needed_words, next_exit, no_homes, tested_at, tested_exit}
+use Rattle.program_codegen.specs.Homes.{choice_lines, direct_end, direct_lines, direct_step, end_at, end_words, home_of, needed_words, next_exit, no_homes, tested_at, tested_exit, reach, waiting_words}
 use Rattle.program_codegen.specs.Programs.{AllHaveWords, KeepsTogether, LeavesReady, ReadsReady}
 use Rattle.program_codegen.specs.Promises.{BeginsBy}
 use Rattle.program_codegen.specs.Words.{block_of, departing, plain, program_lines, trap_lines}
 use Rattle.program_codegen.proofs.Beginning.{Starts, before, depart, lines_begin, program_starts, row, trap}
 use Rattle.program_codegen.proofs.Following.{follows, lines_some}
 use Rattle.program_codegen.proofs.Fronts.{Shape}
-use Rattle.program_codegen.proofs.HomeFollowing.{direct_follows, direct_some, ended}
+use Rattle.program_codegen.proofs.HomeFollowing.{direct_follows, direct_some, ended, reaching}
 use Rattle.program_codegen.proofs.HomeSomes.{chained, first_is, mapped}
 use Rattle.program_codegen.proofs.HomeTesting.{tested}
 use Rattle.program_codegen.proofs.HomeShaping.{direct_shape}
@@ -53,6 +54,14 @@ module _ (site : Site) (codes : List AlphaInstr) where
       (before site (map plain (end_words homes.waiting homes c.found.0 c.found.1 x.words)) (trap_lines site c.found.1 ++ departing site c.found.1) (row site (end_words homes.waiting homes c.found.0 c.found.1 x.words))
       (before site (trap_lines site c.found.1) (departing site c.found.1) (trap site c.found.1) (depart site c.found.1)))
 
+  reach_starts : (operation : Micro) (program : List Micro) (homes : Homes) (lines : List Line) → ((homes' : Homes) (rest : List Line) → direct_lines site codes homes' program ≡ Some rest → Starts site rest)
+      → option_and_then (λ (step : Homes × List Line). option_map (λ (lines : List Line). step.1 ++ lines) (direct_lines site codes step.0 program)) (reach site homes operation) ≡ Some lines → Starts site lines
+  reach_starts operation program homes lines later e =
+      let r = reaching site codes homes operation program lines e in
+      subst (Starts site) r.whole
+      (before site (map plain (waiting_words homes.waiting) ++ r.step.1) r.rest
+      (before site (map plain (waiting_words homes.waiting)) r.step.1 (row site (waiting_words homes.waiting)) (reached_starts site homes operation r.step r.is)) (later r.step.0 r.rest r.onward))
+
   direct_starts : (program : List Micro) (homes : Homes) (lines : List Line) → direct_lines site codes homes program ≡ Some lines → Starts site lines
   direct_starts [] homes lines e = absurd (cc e)
   direct_starts (Compute to op size a b ∷ program) homes lines e = by (λ homes' rest is. direct_starts program homes' rest is) (first_is (tested_at site codes homes (Compute to op size a b) program) (option_and_then (λ (step : Homes × List AlphaInstr). option_map (λ (lines : List Line). map plain step.1 ++ lines) (direct_lines site codes step.0 program)) (direct_step site.sources homes to op size a b program)) lines e)
@@ -70,10 +79,10 @@ module _ (site : Site) (codes : List AlphaInstr) where
   direct_starts (Commit number source ∷ program) homes lines e = end_starts (Commit number source) program homes lines e
   direct_starts (Codes n z v c ∷ program) homes lines e = end_starts (Codes n z v c) program homes lines e
   direct_starts (Leave exit ∷ program) homes lines e = end_starts (Leave exit) program homes lines e
-  direct_starts (Probe place count write ∷ program) homes lines e = absurd (cc e)
+  direct_starts (Probe place count write ∷ program) homes lines e = reach_starts (Probe place count write) program homes lines (λ homes' rest is. direct_starts program homes' rest is) e
   direct_starts (Refuse when ∷ program) homes lines e = absurd (cc e)
-  direct_starts (Read to place count ∷ program) homes lines e = absurd (cc e)
-  direct_starts (Write place count source ∷ program) homes lines e = absurd (cc e)
+  direct_starts (Read to place count ∷ program) homes lines e = reach_starts (Read to place count) program homes lines (λ homes' rest is. direct_starts program homes' rest is) e
+  direct_starts (Write place count source ∷ program) homes lines e = reach_starts (Write place count source) program homes lines (λ homes' rest is. direct_starts program homes' rest is) e
   direct_starts (Locked to place kind source ∷ program) homes lines e = absurd (cc e)
   direct_starts (SetPsw source ∷ program) homes lines e = absurd (cc e)
 
@@ -104,7 +113,7 @@ module _ (site : Site) (codes : List AlphaInstr) (after_fits : site.after < 2 ^ 
       by : (o : Option (List Line)) → direct_lines site codes no_homes program ≡ o → Shape site false codes (addresses_of site.after program) (program_words site.sources program + 59) (unwrap_or o (program_lines site codes program))
       by None e = program_shape site codes after_fits encodable few only together program at_start refl ended words (λ e. (refl, refl))
       by (Some lines) e =
-          let shape = direct_shape site codes after_fits encodable few only program no_homes (tt, tt, tt) (record { encodable = All-nil IsEncodable; silent = refl; operate = refl }) lines false at_start e words refl ended in
+          let shape = direct_shape site codes after_fits encodable few only program no_homes (tt, tt, tt) (record { encodable = All-nil IsEncodable; silent = refl; operate = refl }) lines false refl at_start e words refl ended in
           let short = shape.short in
           record { each = shape.each; kept = shape.kept; goes = shape.goes; writes = shape.writes; short = omega arith }
 
@@ -123,7 +132,7 @@ module _ (p : Placement) (site : Site) (codes : List AlphaInstr) (setting : Sett
       by None e w = follows p site codes setting leaves program at_start standing regs pc w sized words reads ready refl ended h range agree
       by (Some lines) e w =
           direct_follows p site codes setting program no_homes lines at_start standing regs pc e w words reads refl ended refl
-          (record { holds = h; are = (tt, tt, tt); values = λ temp r home. absurd (none temp r home) }) agree
+          (record { holds = h; are = (tt, tt, tt); values = λ temp r home. absurd (none temp r home) }) sized (range, agree)
         where
           none : (temp r : ℕ) → home_of no_homes temp ≡ Some r → ⊥
           none temp r home = absurd (by_test (temp == 0) (temp == 1) (temp == 2) home)

@@ -240,7 +240,7 @@ picked A true o r e = (refl, e)
 picked A false o r e = absurd (cc e)
 
 -- ---- where a register is shared
-not_shared : (homes : Homes) (to : ℕ) → is_shared homes to ≡ false → (temp r : ℕ) → (temp == to) ≡ false → home_of homes temp ≡ Some r → (r == (21 + to)) ≡ false
+pub not_shared : (homes : Homes) (to : ℕ) → is_shared homes to ≡ false → (temp r : ℕ) → (temp == to) ≡ false → home_of homes temp ≡ Some r → (r == (21 + to)) ≡ false
 not_shared homes to none temp r other e = by (temp == 0) refl (temp == 1) refl (temp == 2) refl e
   where
     three : (a b c : Bool) → (a || b || c) ≡ false → (a ≡ false) × (b ≡ false) × (c ≡ false)

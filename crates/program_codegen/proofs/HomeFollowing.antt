@@ -1,11 +1,11 @@
 -- The words of a program whose operands are used where they stand follow its tree.
-use Rattle.std.proofs.Common.{◌≡◌, ℕ, ◌+◌, ◌%◌, ◌^◌, ◌<◌, ◌≤◌, refl, sym, ap, ◌∙◌, subst, arith, List, [], ◌∷◌, ◌++◌, length, map, Option, Some, None, Bool, true, false, length-append, inl, inr}
-use Rattle.std.specs.Prelude.{◌⊎◌, ◌==◌, ◌&&◌, not, nat_lt, option_map, option_and_then, if◌then◌else◌}
+use Rattle.std.proofs.Common.{◌≡◌, ℕ, ◌+◌, ◌%◌, ◌^◌, ◌<◌, ◌≤◌, refl, sym, ap, ◌∙◌, subst, arith, List, [], ◌∷◌, ◌++◌, length, map, Option, Some, None, Bool, true, false, append_assoc, length-append, inl, inr}
+use Rattle.std.specs.Prelude.{◌⊎◌, ◌==◌, ◌&&◌, not, nat_lt, option_map, option_and_then, if◌then◌else◌, nat_le}
 use Rattle.std.specs.List.{list_all, list_any}
 use Rattle.std.proofs.lemmas.Bool.Decides.{nat_tests}
-use Rattle.std.proofs.lemmas.Bool.{and_parts, or_left, or_right}
+use Rattle.std.proofs.lemmas.Bool.{and_parts, or_left, or_right, eqb-true}
 use Rattle.std.proofs.lemmas.Option.{same_Some}
-use Rattle.vax_form.specs.State.{with_register}
+use Rattle.vax_form.specs.State.{with_register, Answers}
 use Rattle.vax_form.specs.Tree.{Tree}
 use Rattle.vax_form.specs.declared.instr.Size.{Size}
 use Rattle.alpha_encode.specs.declared.instr.AlphaInstr.{AlphaInstr}
@@ -17,23 +17,30 @@ use Rattle.micro_ops.specs.declared.program.Exit.{Exit}
 use Rattle.micro_ops.specs.declared.program.Micro.{Micro}
 use Rattle.micro_ops.specs.declared.program.Micro.TheVariants.{Compute, Probe, Refuse, Read, Write, Locked, Commit, Codes, SetPsw, Leave}
 use Rattle.micro_ops.specs.declared.program.MicroOp.{MicroOp}
-use Rattle.micro_ops.specs.Course.{Course, AtLeaves}
-use Rattle.micro_ops.specs.Fits.{codes_fit, commit_fits, computation_fits, exit_fits, holding_of, is_ended, sources_fit, step, walk}
-use Rattle.micro_ops.specs.Known.{behind_commit, behind_write, holds, is_committed, is_something}
+use Rattle.micro_ops.specs.Course.{Course, AtLeaves, Ask}
+use Rattle.micro_ops.specs.Fits.{codes_fit, commit_fits, computation_fits, exit_fits, holding_of, is_ended, sources_fit, step, walk, check_fits, read_fits, write_fits}
+use Rattle.micro_ops.specs.Known.{behind_commit, behind_write, holds, is_committed, is_something, behind_access}
 use Rattle.micro_ops.specs.LeftOut.{is_left_out, is_low, is_used}
 use Rattle.micro_ops.specs.Leaving.{CodesComeFrom}
 use Rattle.micro_ops.specs.Meaning.{Left, Standing, course_of, leaves_by, value_of_arg, with_codes, with_temp, with_value}
-use Rattle.micro_ops.specs.Uses.{leaves_longword, reads_flag}
+use Rattle.micro_ops.specs.Uses.{leaves_longword, reads_flag, has_bytes}
 use Rattle.micro_ops.specs.Values.{computed}
 use Rattle.micro_ops.proofs.Held.{held_other}
 use Rattle.block_law.specs.Placements.{Placement}
 use Rattle.block_law.proofs.Rules.{Always, operates, roomy}
+use Rattle.vax_form.specs.Parts.{parts}
+use Rattle.vax_form.specs.Ranges.{IsInRange}
+use Rattle.vax_form.specs.declared.state.Reference.{Reference}
+use Rattle.alpha_encode.specs.declared.instr.AlphaInstr.TheVariants.{Pal}
+use Rattle.micro_ops.specs.declared.known.Checked.TheVariants.{At}
+use Rattle.program_codegen.proofs.Operands.{count_some, read_value, write_done}
+use Rattle.program_codegen.proofs.HomeReaching.{direct_checks, direct_reads, direct_writes}
 use Rattle.program_codegen.specs.declared.homes.Homes.{Homes}
 use Rattle.program_codegen.specs.declared.lines.Line.{Line}
 use Rattle.program_codegen.specs.declared.points.Site.{Site}
-use Rattle.program_codegen.specs.Homes.{are_short_rules, choice_lines, commit_stays, copied, direct_by, direct_code, direct_end, direct_lines, direct_step, end_at, end_lines, end_words, exit_behind, exit_stays, is_direct, made, may_end, moved_words, needed_words, new_home, next_exit, step_by, tested_at, tested_exit, waiting_words, with_home}
+use Rattle.program_codegen.specs.Homes.{are_short_rules, choice_lines, commit_stays, copied, direct_by, direct_code, direct_end, direct_lines, direct_step, end_at, end_lines, end_words, exit_behind, exit_stays, is_direct, made, may_end, moved_words, needed_words, new_home, next_exit, step_by, tested_at, tested_exit, waiting_words, with_home, is_shared, may_write, reach, reached, read_home, reading, settled, stands, with_waiting}
 use Rattle.program_codegen.specs.Programs.{AllHaveWords, ReadsReady}
-use Rattle.program_codegen.specs.Words.{departing, plain, trap_lines}
+use Rattle.program_codegen.specs.Words.{departing, plain, trap_lines, copy, marked, probing, write_by}
 use Rattle.program_codegen.proofs.Committing.{sets_codes}
 use Rattle.program_codegen.proofs.Following.{departs, opened}
 use Rattle.program_codegen.proofs.HomeComputing.{computes, copies_then, made_operates, makes_then}
@@ -44,7 +51,7 @@ use Rattle.program_codegen.proofs.HomeTesting.{Tested, tested, tested_follows}
 use Rattle.program_codegen.proofs.Holding.{Setting, ends, found, tree}
 use Rattle.program_codegen.proofs.Knowing.{walk_fits, write_changes}
 use Rattle.program_codegen.proofs.Numbers.{all_three}
-use Rattle.program_codegen.proofs.Walk.{Within, is_inside, row_length, row_rest, row_words}
+use Rattle.program_codegen.proofs.Walk.{Within, is_inside, row_length, row_rest, row_words, next}
 
 -- ---- a step
 pub record Stepped (site : Site) (homes : Homes) (to : ℕ) (op : MicroOp) (size : Size) (a b : Arg) (program : List Micro) (step : Homes × List AlphaInstr) (out : Bool) : Type 0 where
@@ -96,6 +103,39 @@ ended site codes homes commit exit lines e = by (may_end site homes commit exit)
         record { words = m.found; may = may; moved = m.is; whole = m.whole }
     by false may e = absurd (cc e)
 
+-- ---- a reference
+-- what comes behind it, and its lines
+pub record Reaching (site : Site) (codes : List AlphaInstr) (homes : Homes) (operation : Micro) (program : List Micro) (lines : List Line) : Type 0 where
+  pub step : Homes × List Line
+  pub is : reached site homes operation ≡ Some step
+  pub rest : List Line
+  pub onward : direct_lines site codes step.0 program ≡ Some rest
+  pub whole : (map plain (waiting_words homes.waiting) ++ step.1) ++ rest ≡ lines
+
+pub reaching : (site : Site) (codes : List AlphaInstr) (homes : Homes) (operation : Micro) (program : List Micro) (lines : List Line)
+    → option_and_then (λ (step : Homes × List Line). option_map (λ (lines : List Line). step.1 ++ lines) (direct_lines site codes step.0 program)) (reach site homes operation) ≡ Some lines
+    → Reaching site codes homes operation program lines
+reaching site codes homes operation program lines e =
+    let c = chained (Homes × List Line) (List Line) (λ (step : Homes × List Line). option_map (λ (lines : List Line). step.1 ++ lines) (direct_lines site codes step.0 program)) (reach site homes operation) lines e in
+    let m = mapped (List Line) (List Line) (λ (lines : List Line). c.found.1 ++ lines) (direct_lines site codes c.found.0 program) lines c.onward in
+    let r = mapped (Homes × List Line) (Homes × List Line) (with_waiting homes) (reached site homes operation) c.found c.is in
+    record {
+      step = r.found;
+      is = r.is;
+      rest = m.found;
+      onward = subst (λ (step : Homes × List Line). direct_lines site codes step.0 program ≡ Some m.found) (sym r.whole) m.is;
+      whole = ap (λ (step : Homes × List Line). step.1 ++ m.found) r.whole ∙ m.whole;
+    }
+
+-- one that is made where a test fails, or holds
+pub where_false : {A : Type 0} (b : Bool) (made step : A) → (if b then None else Some made) ≡ Some step → (b ≡ false) × (made ≡ step)
+where_false true made step e = absurd (cc e)
+where_false false made step e = (refl, same_Some made step e)
+
+pub where_true : {A : Type 0} (b : Bool) (made step : A) → (if b then Some made else None) ≡ Some step → (b ≡ true) × (made ≡ step)
+where_true true made step e = (refl, same_Some made step e)
+where_true false made step e = absurd (cc e)
+
 -- ---- lines that end
 module _ (site : Site) (codes : List AlphaInstr) where
   end_some : (operation : Micro) (program : List Micro) (homes : Homes) (lines : List Line)
@@ -112,6 +152,14 @@ module _ (site : Site) (codes : List AlphaInstr) where
           let x = length-append xs (cs ++ ds) in
           let z = length-append cs ds in
           omega arith
+
+  reach_some : (operation : Micro) (program : List Micro) (homes : Homes) (lines : List Line) → ((homes' : Homes) (rest : List Line) → direct_lines site codes homes' program ≡ Some rest → 1 ≤ length rest)
+      → option_and_then (λ (step : Homes × List Line). option_map (λ (lines : List Line). step.1 ++ lines) (direct_lines site codes step.0 program)) (reach site homes operation) ≡ Some lines → 1 ≤ length lines
+  reach_some operation program homes lines later e =
+      let r = reaching site codes homes operation program lines e in
+      let some = later r.step.0 r.rest r.onward in
+      let count = length-append (map plain (waiting_words homes.waiting) ++ r.step.1) r.rest in
+      subst (λ (ls : List Line). 1 ≤ length ls) r.whole (omega arith)
 
   -- lines of a program end with an exit
   pub direct_some : (program : List Micro) (homes : Homes) (lines : List Line) → direct_lines site codes homes program ≡ Some lines → 1 ≤ length lines
@@ -135,10 +183,10 @@ module _ (site : Site) (codes : List AlphaInstr) where
   direct_some (Commit number source ∷ program) homes lines e = end_some (Commit number source) program homes lines e
   direct_some (Codes n z v c ∷ program) homes lines e = end_some (Codes n z v c) program homes lines e
   direct_some (Leave exit ∷ program) homes lines e = end_some (Leave exit) program homes lines e
-  direct_some (Probe place count write ∷ program) homes lines e = absurd (cc e)
+  direct_some (Probe place count write ∷ program) homes lines e = reach_some (Probe place count write) program homes lines (λ homes' rest is. direct_some program homes' rest is) e
   direct_some (Refuse when ∷ program) homes lines e = absurd (cc e)
-  direct_some (Read to place count ∷ program) homes lines e = absurd (cc e)
-  direct_some (Write place count source ∷ program) homes lines e = absurd (cc e)
+  direct_some (Read to place count ∷ program) homes lines e = reach_some (Read to place count) program homes lines (λ homes' rest is. direct_some program homes' rest is) e
+  direct_some (Write place count source ∷ program) homes lines e = reach_some (Write place count source) program homes lines (λ homes' rest is. direct_some program homes' rest is) e
   direct_some (Locked to place kind source ∷ program) homes lines e = absurd (cc e)
   direct_some (SetPsw source ∷ program) homes lines e = absurd (cc e)
 
@@ -263,21 +311,50 @@ module _ (p : Placement) (site : Site) (codes : List AlphaInstr) (setting : Sett
   later_flags : (operation : Micro) (program : List Micro) → ReadsReady site.before (operation ∷ program) → ReadsReady site.before program
   later_flags operation program reads flag lt is = reads flag lt (or_right (reads_flag flag operation) (list_any (reads_flag flag) program) is)
 
+  -- a course stays in range, and its codes come from the sources
+  abbrev pub Good : Course Left → Type 0
+  Good course = IsInRange p.pages (tree (ends p) course) × AtLeaves (CodesComeFrom site.sources p.begun) course
+
+  opens : (reference : Reference) (on : ℕ → Course Left) (reply : ℕ) → Good (Ask reference on) → Answers reference reply → Good (on reply)
+  opens reference on reply good ok = (good.0.1 reply ok, good.1 reply ok)
+
+  -- the word that waits comes before the lines of a reference
+  reach_front : (homes : Homes) (front rest lines : List Line) (regs : Regs) (pc : ℕ) (t : Tree) → (map plain (waiting_words homes.waiting) ++ front) ++ rest ≡ lines → Waits homes → 1 ≤ length rest → Within p site.behind pc lines
+      → (Within p site.behind (pc + length (waiting_words homes.waiting)) (front ++ rest) → Always p None (length (front ++ rest)) (at_place (effects (waiting_words homes.waiting) regs) (pc + length (waiting_words homes.waiting))) t)
+      → Always p None (length lines) (at_place regs pc) t
+  reach_front homes front rest lines regs pc t whole waits some w behind =
+      let split : map plain (waiting_words homes.waiting) ++ (front ++ rest) ≡ lines = sym (append_assoc (map plain (waiting_words homes.waiting)) front rest) ∙ whole in
+      let w' = subst (Within p site.behind pc) (sym split) w in
+      let more = length-append front rest in
+      let count = row_length p site.behind (waiting_words homes.waiting) (front ++ rest) in
+      let high = w'.high in
+      subst (λ (ls : List Line). Always p None (length ls) (at_place regs pc) t) split
+      (roomy p None (length (waiting_words homes.waiting) + length (front ++ rest)) (length (map plain (waiting_words homes.waiting) ++ (front ++ rest))) (at_place regs pc) t (omega arith)
+      (operates p None (length (front ++ rest)) (waiting_words homes.waiting) regs pc t (row_words p site.behind pc (waiting_words homes.waiting) (front ++ rest) w') waits w'.low (omega arith)
+      (λ q lt le. is_inside p site.behind pc q (map plain (waiting_words homes.waiting) ++ (front ++ rest)) w' lt (omega arith))
+      (behind (row_rest p site.behind pc (waiting_words homes.waiting) (front ++ rest) w'))))
+
+  later_sized : (operation : Micro) (program : List Micro) → list_all (has_bytes setting.bytes) (operation ∷ program) ≡ true → list_all (has_bytes setting.bytes) program ≡ true
+  later_sized operation program sized = (and_parts (has_bytes setting.bytes operation) (list_all (has_bytes setting.bytes) program) sized).1
+
+  two_words : (pc : ℕ) → pc + 1 + 1 ≡ pc + 2
+  two_words pc = omega arith
+
   abbrev Follows : List Micro → List Line → Standing → Regs → ℕ → Type 0
   Follows program lines standing regs pc = Always p None (length lines) (at_place regs pc) (tree (ends p) (Course_of program standing))
 
   pub direct_follows : (program : List Micro) (homes : Homes) (lines : List Line) (known : Known) (standing : Standing) (regs : Regs) (pc : ℕ)
       → direct_lines site codes homes program ≡ Some lines → Within p site.behind pc lines → AllHaveWords site.sources program → ReadsReady site.before program
       → known.ended ≡ false → is_ended (walk site.sources known program) ≡ true
-      → Waits homes → Direct p site known homes standing (effects (waiting_words homes.waiting) regs) → AtLeaves (CodesComeFrom site.sources p.begun) (Course_of program standing)
+      → Waits homes → Direct p site known homes standing (effects (waiting_words homes.waiting) regs) → list_all (has_bytes setting.bytes) program ≡ true → Good (Course_of program standing)
       → Always p None (length lines) (at_place regs pc) (tree (ends p) (Course_of program standing))
   unfolding step
-  direct_follows [] homes lines known standing regs pc e w have reads off walked waits d agree = absurd (cc e)
-  direct_follows (Compute to op size a b ∷ program) homes lines known standing regs pc e w have reads off walked waits d agree =
+  direct_follows [] homes lines known standing regs pc e w have reads off walked waits d sized good = absurd (cc e)
+  direct_follows (Compute to op size a b ∷ program) homes lines known standing regs pc e w have reads off walked waits d sized good =
       let behind = behind_write to (holding_of (leaves_longword (Compute to op size a b))) known in
       let x = walk_fits (computation_fits known to op a b) behind (λ behind. walk site.sources behind program) (opened site.sources known (Compute to op size a b) program off walked) in
       let off' = (write_changes to (holding_of (leaves_longword (Compute to op size a b))) known).ended ∙ off in
-      of x.0 x.1 off' (λ standing' g pc' homes' rest is' w' waits' d' agree'. direct_follows program homes' rest behind standing' g pc' is' w' have.1 (later_flags (Compute to op size a b) program reads) off' x.1 waits' d' agree') (first_is (tested_at site codes homes (Compute to op size a b) program) (option_and_then (λ (step : Homes × List AlphaInstr). option_map (λ (lines : List Line). map plain step.1 ++ lines) (direct_lines site codes step.0 program)) (direct_step site.sources homes to op size a b program)) lines e)
+      of x.0 x.1 off' (λ standing' g pc' homes' rest is' w' waits' d' good'. direct_follows program homes' rest behind standing' g pc' is' w' have.1 (later_flags (Compute to op size a b) program reads) off' x.1 waits' d' (later_sized (Compute to op size a b) program sized) good') (first_is (tested_at site codes homes (Compute to op size a b) program) (option_and_then (λ (step : Homes × List AlphaInstr). option_map (λ (lines : List Line). map plain step.1 ++ lines) (direct_lines site codes step.0 program)) (direct_step site.sources homes to op size a b program)) lines e)
     where
       value : ℕ
       value = computed op size (value_of_arg (found p site) standing.temps a) (value_of_arg (found p site) standing.temps b) (standing.temps to)
@@ -294,7 +371,7 @@ module _ (p : Placement) (site : Site) (codes : List AlphaInstr) (setting : Sett
       Onward : List Line → Type 0
       Onward rest = (standing' : Standing) (g : Regs) (pc' : ℕ) (homes' : Homes) → direct_lines site codes homes' program ≡ Some rest → Within p site.behind pc' rest → Waits homes'
           → Direct p site (behind_write to (holding_of (leaves_longword (Compute to op size a b))) known) homes' standing' (effects (waiting_words homes'.waiting) g)
-          → AtLeaves (CodesComeFrom site.sources p.begun) (Course_of program standing') → Follows program rest standing' g pc'
+          → Good (Course_of program standing') → Follows program rest standing' g pc'
 
       -- the word that waits comes first
       first : (need : ℕ) (rest : List Line) (t : Tree) → 1 ≤ length rest → Within p site.behind pc (map plain (waiting_words homes.waiting) ++ rest)
@@ -332,7 +409,7 @@ module _ (p : Placement) (site : Site) (codes : List AlphaInstr) (setting : Sett
           let d' = copies_then p site known homes standing begun d to op size a b r fits has.1 e in
           onward (with_value to value standing) regs pc homes_then is w
           (subst (λ (o : Option AlphaInstr). list_all is_operate (waiting_words o) ≡ true) (sym (waits_same to (new_home homes to op size a b) homes)) waits)
-          (subst (λ (o : Option AlphaInstr). Direct p site after homes_then (with_value to value standing) (effects (waiting_words o) regs)) (sym (waits_same to (new_home homes to op size a b) homes)) d') agree
+          (subst (λ (o : Option AlphaInstr). Direct p site after homes_then (with_value to value standing) (effects (waiting_words o) regs)) (sym (waits_same to (new_home homes to op size a b) homes)) d') good
       by_words rest fits onward out direct None e (Some word) f is w =
           let has = have.0 out in
           let operate = made_operates homes to op size a b word f in
@@ -343,7 +420,7 @@ module _ (p : Placement) (site : Site) (codes : List AlphaInstr) (setting : Sett
           (first (length rest) rest _ some w
           (onward (with_value to value standing) begun (pc + length (waiting_words homes.waiting)) (record homes_then { waiting = Some word }) is (row_rest p site.behind pc (waiting_words homes.waiting) rest w)
           (ap (λ c. c && true) operate)
-          (record { holds = d'.holds; are = d'.are; values = d'.values }) agree))
+          (record { holds = d'.holds; are = d'.are; values = d'.values }) good))
       by_words rest fits onward out direct None e None f is w =
           let has = have.0 out in
           let some = direct_some site codes program (record homes_then { waiting = None }) rest is in
@@ -358,7 +435,7 @@ module _ (p : Placement) (site : Site) (codes : List AlphaInstr) (setting : Sett
           (computes p site known homes standing begun d (length rest) (pc + length (waiting_words homes.waiting)) to op size a b rest _ w1 some fits has.0 has.1 has.2
           (λ flag lt is. reads flag lt (or_left (reads_flag flag (Compute to op size a b)) (list_any (reads_flag flag) program) is)) direct
           (λ g d'. onward (with_value to value standing) g (pc + length (waiting_words homes.waiting) + length (direct_code homes to op size a b)) (record homes_then { waiting = None }) is
-          (row_rest p site.behind (pc + length (waiting_words homes.waiting)) (direct_code homes to op size a b) rest w1) refl (record { holds = d'.holds; are = d'.are; values = d'.values }) agree)))
+          (row_rest p site.behind (pc + length (waiting_words homes.waiting)) (direct_code homes to op size a b) rest w1) refl (record { holds = d'.holds; are = d'.are; values = d'.values }) good)))
 
       by : (step : Homes × List AlphaInstr) (rest : List Line) → direct_lines site codes step.0 program ≡ Some rest → map plain step.1 ++ rest ≡ lines → computation_fits known to op a b ≡ true → Onward rest
           → (out : Bool) → is_left_out site.sources (Compute to op size a b) program ≡ out → Stepped site homes to op size a b program step out
@@ -367,7 +444,7 @@ module _ (p : Placement) (site : Site) (codes : List AlphaInstr) (setting : Sett
           let same : rest ≡ lines = ap (λ (step : Homes × List AlphaInstr). map plain step.1 ++ rest) (sym s.is) ∙ whole in
           subst (λ (ls : List Line). Always p None (length ls) (at_place regs pc) (tree (ends p) (Course_of program (with_value to value standing)))) same
           (onward (with_value to value standing) regs pc homes (subst (λ (step : Homes × List AlphaInstr). direct_lines site codes step.0 program ≡ Some rest) s.is is) (subst (Within p site.behind pc) (sym same) w) waits
-          (left_out known homes standing begun to op size a b program value out d) agree)
+          (left_out known homes standing begun to op size a b program value out d) good)
       by step rest is whole fits onward false out s =
           let same : map plain (direct_by homes to op size a b).1 ++ rest ≡ lines = ap (λ (step : Homes × List AlphaInstr). map plain step.1 ++ rest) (sym s.is) ∙ whole in
           subst (λ (ls : List Line). Always p None (length ls) (at_place regs pc) (tree (ends p) (Course_of (Compute to op size a b ∷ program) standing))) same
@@ -375,38 +452,95 @@ module _ (p : Placement) (site : Site) (codes : List AlphaInstr) (setting : Sett
           (subst (λ (step : Homes × List AlphaInstr). direct_lines site codes step.0 program ≡ Some rest) s.is is) (subst (Within p site.behind pc) (sym same) w))
 
       of : computation_fits known to op a b ≡ true → is_ended (walk site.sources after program) ≡ true → after.ended ≡ false
-          → ((standing' : Standing) (g : Regs) (pc' : ℕ) (homes' : Homes) (rest : List Line) → direct_lines site codes homes' program ≡ Some rest → Within p site.behind pc' rest → Waits homes' → Direct p site (behind_write to (holding_of (leaves_longword (Compute to op size a b))) known) homes' standing' (effects (waiting_words homes'.waiting) g) → AtLeaves (CodesComeFrom site.sources p.begun) (Course_of program standing') → Follows program rest standing' g pc')
+          → ((standing' : Standing) (g : Regs) (pc' : ℕ) (homes' : Homes) (rest : List Line) → direct_lines site codes homes' program ≡ Some rest → Within p site.behind pc' rest → Waits homes' → Direct p site (behind_write to (holding_of (leaves_longword (Compute to op size a b))) known) homes' standing' (effects (waiting_words homes'.waiting) g) → Good (Course_of program standing') → Follows program rest standing' g pc')
           → ((tested_at site codes homes (Compute to op size a b) program) ≡ Some lines) ⊎ (((tested_at site codes homes (Compute to op size a b) program) ≡ None) × ((option_and_then (λ (step : Homes × List AlphaInstr). option_map (λ (lines : List Line). map plain step.1 ++ lines) (direct_lines site codes step.0 program)) (direct_step site.sources homes to op size a b program)) ≡ Some lines)) → Always p None (length lines) (at_place regs pc) (tree (ends p) (Course_of (Compute to op size a b ∷ program) standing))
       of fits walked' off' onward (inl tests) =
           let c = chained Exit (List Line) (tested_exit site codes homes to op size a b) (next_exit program) lines tests in
-          tested_then c.found program c.is (tested site codes homes to op size a b c.found lines c.onward) fits walked' off' have reads agree
+          tested_then c.found program c.is (tested site codes homes to op size a b c.found lines c.onward) fits walked' off' have reads good.1
       of fits walked' off' onward (inr y) =
           let c = chained (Homes × List AlphaInstr) (List Line) (λ (step : Homes × List AlphaInstr). option_map (λ (lines : List Line). map plain step.1 ++ lines) (direct_lines site codes step.0 program)) (direct_step site.sources homes to op size a b program) lines y.1 in
           let m = mapped (List Line) (List Line) (λ (lines : List Line). map plain c.found.1 ++ lines) (direct_lines site codes c.found.0 program) lines c.onward in
-          by c.found m.found m.is m.whole fits (λ standing' g pc' homes' is' w' waits' d' agree'. onward standing' g pc' homes' m.found is' w' waits' d' agree')
+          by c.found m.found m.is m.whole fits (λ standing' g pc' homes' is' w' waits' d' good'. onward standing' g pc' homes' m.found is' w' waits' d' good')
           (is_left_out site.sources (Compute to op size a b) program) refl (stepped site homes to op size a b program c.found (is_left_out site.sources (Compute to op size a b) program) refl c.is)
-  direct_follows (Commit number source ∷ program) homes lines known standing regs pc e w have reads off walked waits d agree =
+  direct_follows (Commit number source ∷ program) homes lines known standing regs pc e w have reads off walked waits d sized good =
       let x = walk_fits (commit_fits known number source) (behind_commit number known) (λ behind. walk site.sources behind program) (opened site.sources known (Commit number source) program off walked) in
       let y = all_three (nat_lt number 15) (holds known source) (not (is_committed known number)) x.0 in
       let z = with_exit site codes (Some (number, source)) (Commit number source) program homes lines refl e in
       let end = z.2 in
       subst (λ (ls : List Line). Follows (Commit number source ∷ program) ls standing regs pc) end.whole
       (ending program z.0 (Some (number, source)) homes end.words (behind_commit number known) standing regs pc z.1 end.may end.moved (subst (Within p site.behind pc) (sym end.whole) w) have.1 off x.1 (have.0.0, y.1)
-      waits (committing p site known homes number standing (effects (waiting_words homes.waiting) regs) have.0.0 d) agree)
-  direct_follows (Codes n z v c ∷ program) homes lines known standing regs pc e w have reads off walked waits d agree =
+      waits (committing p site known homes number standing (effects (waiting_words homes.waiting) regs) have.0.0 d) good.1)
+  direct_follows (Codes n z v c ∷ program) homes lines known standing regs pc e w have reads off walked waits d sized good =
       let x = walk_fits (codes_fit known n z v c) (record known { codes = true; changed = true }) (λ behind. walk site.sources behind program) (opened site.sources known (Codes n z v c) program off walked) in
       let y = with_exit site codes None (Codes n z v c) program homes lines refl e in
       let end = y.2 in
       subst (λ (ls : List Line). Follows (Codes n z v c ∷ program) ls standing regs pc) end.whole
       (ending program y.0 None homes end.words (record known { codes = true; changed = true }) (with_codes n z v c standing) regs pc y.1 end.may end.moved (subst (Within p site.behind pc) (sym end.whole) w) have.1 off x.1 tt
-      waits (set_codes n z v c known homes standing (effects (waiting_words homes.waiting) regs) d) agree)
-  direct_follows (Leave exit ∷ program) homes lines known standing regs pc e w have reads off walked waits d agree =
+      waits (set_codes n z v c known homes standing (effects (waiting_words homes.waiting) regs) d) good.1)
+  direct_follows (Leave exit ∷ program) homes lines known standing regs pc e w have reads off walked waits d sized good =
       let end = ends_with site codes (Leave exit) program homes lines None exit refl e in
       subst (λ (ls : List Line). Follows (Leave exit ∷ program) ls standing regs pc) end.whole
-      (ending (Leave exit ∷ program) exit None homes end.words known standing regs pc refl end.may end.moved (subst (Within p site.behind pc) (sym end.whole) w) have off walked tt waits d agree)
-  direct_follows (Probe place count write ∷ program) homes lines known standing regs pc e w have reads off walked waits d agree = absurd (cc e)
-  direct_follows (Refuse when ∷ program) homes lines known standing regs pc e w have reads off walked waits d agree = absurd (cc e)
-  direct_follows (Read to place count ∷ program) homes lines known standing regs pc e w have reads off walked waits d agree = absurd (cc e)
-  direct_follows (Write place count source ∷ program) homes lines known standing regs pc e w have reads off walked waits d agree = absurd (cc e)
-  direct_follows (Locked to place kind source ∷ program) homes lines known standing regs pc e w have reads off walked waits d agree = absurd (cc e)
-  direct_follows (SetPsw source ∷ program) homes lines known standing regs pc e w have reads off walked waits d agree = absurd (cc e)
+      (ending (Leave exit ∷ program) exit None homes end.words known standing regs pc refl end.may end.moved (subst (Within p site.behind pc) (sym end.whole) w) have off walked tt waits d good.1)
+  direct_follows (Probe place count write ∷ program) homes lines known standing regs pc e w have reads off walked waits d sized good =
+      let behind = behind_access (record known { checked = At place count write }) in
+      let x = walk_fits (check_fits known place count) behind (λ behind. walk site.sources behind program) (opened site.sources known (Probe place count write) program off walked) in
+      let r = reaching site codes homes (Probe place count write) program lines e in
+      let front = plain (copy (stands homes place) 27) ∷ marked (Pal 0x80) (probing site count write) ∷ [] in
+      let made : Homes × List Line = (settled homes, plain (copy (stands homes place) 27) ∷ marked (Pal 0x80) (probing site count write) ∷ []) in
+      let same = same_Some made r.step r.is in
+      let onward = subst (λ (step : Homes × List Line). direct_lines site codes step.0 program ≡ Some r.rest) (sym same) r.onward in
+      let some = direct_some site codes program (settled homes) r.rest onward in
+      reach_front homes front r.rest lines regs pc (tree (ends p) (Course_of (Probe place count write ∷ program) standing)) (ap (λ (step : Homes × List Line). (map plain (waiting_words homes.waiting) ++ step.1) ++ r.rest) same ∙ r.whole) waits some w
+      (λ w'.
+      let at = pc + length (waiting_words homes.waiting) in
+      let w1 = next p site.behind at (copy (stands homes place) 27) None (marked (Pal 0x80) (probing site count write) ∷ r.rest) w' in
+      let w2 = subst (λ q. Within p site.behind q r.rest) (two_words at) (next p site.behind (at + 1) (Pal 0x80) (Some (probing site count write)) r.rest w1) in
+      roomy p None (2 + length r.rest) (length (front ++ r.rest)) _ _ (omega arith)
+      (direct_checks p site (ends p) (length r.rest) (pc + length (waiting_words homes.waiting)) place count write r.rest known homes standing (effects (waiting_words homes.waiting) regs) (Course_of program standing) w' some x.0 have.0.0 have.0.1 d
+      (λ g ok d'. direct_follows program (settled homes) r.rest behind standing g (pc + length (waiting_words homes.waiting) + 2) onward w2 have.1 (later_flags (Probe place count write) program reads) off x.1 refl d' (later_sized (Probe place count write) program sized) (good.0 ok, good.1))))
+  direct_follows (Refuse when ∷ program) homes lines known standing regs pc e w have reads off walked waits d sized good = absurd (cc e)
+  direct_follows (Read to place count ∷ program) homes lines known standing regs pc e w have reads off walked waits d sized good =
+      let behind = behind_access (behind_write to (holding_of (nat_le count 4)) known) in
+      let x = walk_fits (read_fits known to place count) behind (λ behind. walk site.sources behind program) (opened site.sources known (Read to place count) program off walked) in
+      let off' = (write_changes to (holding_of (nat_le count 4)) known).ended ∙ off in
+      let r = reaching site codes homes (Read to place count) program lines e in
+      let homes' = with_home to (read_home to count) (settled homes) in
+      let words = reading site.byte_word homes to place count in
+      let made : Homes × List Line = (with_home to (read_home to count) (settled homes), map plain (reading site.byte_word homes to place count)) in
+      let found = where_false (is_shared homes to) made r.step r.is in
+      let onward = subst (λ (step : Homes × List Line). direct_lines site codes step.0 program ≡ Some r.rest) (sym found.1) r.onward in
+      let some = direct_some site codes program homes' r.rest onward in
+      let size = count_some have.0.2 in
+      let quiet = waits_same to (read_home to count) (settled homes) in
+      reach_front homes (map plain words) r.rest lines regs pc (tree (ends p) (Course_of (Read to place count ∷ program) standing)) (ap (λ (step : Homes × List Line). (map plain (waiting_words homes.waiting) ++ step.1) ++ r.rest) found.1 ∙ r.whole) waits some w
+      (λ w'.
+      let at = pc + length (waiting_words homes.waiting) in
+      let length_is = row_length p site.behind (reading site.byte_word homes to place count) r.rest in
+      roomy p None (length (reading site.byte_word homes to place count) + length r.rest) (length (map plain (reading site.byte_word homes to place count) ++ r.rest)) _ _ (omega arith)
+      (direct_reads p site setting.pages setting.bytes setting.kinds (ends p) (length r.rest) (pc + length (waiting_words homes.waiting)) to place count r.rest known homes standing (effects (waiting_words homes.waiting) regs) (λ value. Course_of program (with_value to value standing)) w' some x.0 have.0.0 have.0.1 have.0.2 found.0 d
+      (λ value g fits d'.
+      let good' = read_value Good opens (standing.temps place) count value (λ value. Course_of program (with_value to value standing)) size.0 size.1 fits good in
+      direct_follows program homes' r.rest behind (with_value to value standing) g (pc + length (waiting_words homes.waiting) + length (reading site.byte_word homes to place count)) onward (row_rest p site.behind at words r.rest w') have.1 (later_flags (Read to place count) program reads) off' x.1
+      (subst (λ (o : Option AlphaInstr). list_all is_operate (waiting_words o) ≡ true) (sym quiet) refl)
+      (subst (λ (o : Option AlphaInstr). Direct p site behind homes' (with_value to value standing) (effects (waiting_words o) g)) (sym quiet) d') (later_sized (Read to place count) program sized) good')))
+  direct_follows (Write place count source ∷ program) homes lines known standing regs pc e w have reads off walked waits d sized good =
+      let x = walk_fits (write_fits known place count source) (behind_access known) (λ behind. walk site.sources behind program) (opened site.sources known (Write place count source) program off walked) in
+      let r = reaching site codes homes (Write place count source) program lines e in
+      let words = write_by site.byte_word (stands homes place) count (stands homes source) in
+      let made : Homes × List Line = (settled homes, map plain (write_by site.byte_word (stands homes place) count (stands homes source))) in
+      let found = where_true (may_write homes count source) made r.step r.is in
+      let onward = subst (λ (step : Homes × List Line). direct_lines site codes step.0 program ≡ Some r.rest) (sym found.1) r.onward in
+      let some = direct_some site codes program (settled homes) r.rest onward in
+      let good' = write_done Good opens (parts (standing.temps place) count) (standing.temps source) (Course_of program standing) good in
+      reach_front homes (map plain words) r.rest lines regs pc (tree (ends p) (Course_of (Write place count source ∷ program) standing)) (ap (λ (step : Homes × List Line). (map plain (waiting_words homes.waiting) ++ step.1) ++ r.rest) found.1 ∙ r.whole) waits some w
+      (λ w'.
+      let at = pc + length (waiting_words homes.waiting) in
+      let length_is = row_length p site.behind (write_by site.byte_word (stands homes place) count (stands homes source)) r.rest in
+      roomy p None (length (write_by site.byte_word (stands homes place) count (stands homes source)) + length r.rest) (length (map plain (write_by site.byte_word (stands homes place) count (stands homes source)) ++ r.rest)) _ _ (omega arith)
+      (direct_writes p site setting.pages setting.bytes setting.kinds (ends p) (length r.rest) (pc + length (waiting_words homes.waiting)) place count source r.rest known homes standing (effects (waiting_words homes.waiting) regs) (Course_of program standing) w' some x.0 have.0.0 have.0.1 have.0.2
+      (eqb-true count setting.bytes (and_parts (count == setting.bytes) (list_all (has_bytes setting.bytes) program) sized).0) found.0 d
+      (λ g d'.
+      direct_follows program (settled homes) r.rest (behind_access known) standing g (pc + length (waiting_words homes.waiting) + length (write_by site.byte_word (stands homes place) count (stands homes source))) onward (row_rest p site.behind at words r.rest w') have.1 (later_flags (Write place count source) program reads) off x.1
+      refl d' (later_sized (Write place count source) program sized) good')))
+  direct_follows (Locked to place kind source ∷ program) homes lines known standing regs pc e w have reads off walked waits d sized good = absurd (cc e)
+  direct_follows (SetPsw source ∷ program) homes lines known standing regs pc e w have reads off walked waits d sized good = absurd (cc e)

@@ -178,15 +178,15 @@ pub record Direct (p : Placement) (site : Site) (known : Known) (homes : Homes) 
   pub values : (temp r : ℕ) → home_of homes temp ≡ Some r → (standing.temps temp ≡ regs r % 2 ^ 32) × IsExtended (regs r)
 
 module _ (p : Placement) (site : Site) where
-  -- a temporary is written; it stands in its own register or in a home
-  pub written : (known : Known) (homes : Homes) (home : Option ℕ) (holding : Holding) (to value : ℕ) (standing : Standing) (old new : Regs)
+  -- a temporary is written; it stands in its own register or in a home, and those that held something outlast it
+  pub written_held : (known : Known) (homes : Homes) (home : Option ℕ) (holding : Holding) (to value : ℕ) (standing : Standing) (old new : Regs)
       → ((n : ℕ) → is_kept n ≡ true → new n ≡ old n) → new 31 ≡ old 31
-      → ((temp : ℕ) → temp < 6 → (temp == to) ≡ false → new (21 + temp) ≡ old (21 + temp))
+      → ((temp : ℕ) → temp < 6 → (temp == to) ≡ false → is_something (held (hidden homes known) temp) ≡ true → new (21 + temp) ≡ old (21 + temp))
       → (home_of (with_home to home homes) to ≡ None → to < 6 → HoldsAs holding value (new (21 + to)))
       → IsHome home → ((r : ℕ) → home ≡ Some r → (value ≡ new r % 2 ^ 32) × IsExtended (new r))
       → ((temp r : ℕ) → (temp == to) ≡ false → home_of homes temp ≡ Some r → new r ≡ old r)
       → Direct p site known homes standing old → Direct p site (behind_write to holding known) (with_home to home homes) (with_value to value standing) new
-  written known homes home holding to value standing old new same zero_same others own is there homes_same d =
+  written_held known homes home holding to value standing old new same zero_same others own is there homes_same d =
       record {
         holds = unchanged p site (hidden homes known) (hidden (with_home to home homes) (behind_write to holding known)) standing (with_temp to value standing.temps) old new
             (hidden_changes homes (with_home to home homes) to holding known) same zero_same (λ temp lt. holds_value temp lt (temp == to) refl)
@@ -215,7 +215,7 @@ module _ (p : Placement) (site : Site) where
       holds_value temp lt false e =
           subst (λ v. HoldsAs (held (hidden (with_home to home homes) (behind_write to holding known)) temp) v (new (21 + temp))) (sym (stays temp e))
           (subst (λ h. HoldsAs h (standing.temps temp) (new (21 + temp))) (sym (hidden_other homes (with_home to home homes) known holding to temp e (home_other to home homes temp e)))
-          (held_still (held (hidden homes known) temp) (standing.temps temp) (old (21 + temp)) (new (21 + temp)) (λ some. others temp lt e) (d.holds.temps temp lt)))
+          (held_still (held (hidden homes known) temp) (standing.temps temp) (old (21 + temp)) (new (21 + temp)) (λ some. others temp lt e some) (d.holds.temps temp lt)))
 
       home_value : (temp r : ℕ) → home_of (with_home to home homes) temp ≡ Some r → (b : Bool) → (temp == to) ≡ b → (with_temp to value standing.temps temp ≡ new r % 2 ^ 32) × IsExtended (new r)
       home_value temp r e true same =
@@ -230,6 +230,17 @@ module _ (p : Placement) (site : Site) where
             stays temp other ∙ (found.0 ∙ ap (λ v. v % 2 ^ 32) (sym kept)),
             subst IsExtended (sym kept) found.1,
           )
+
+  -- the same where all outlast it
+  pub written : (known : Known) (homes : Homes) (home : Option ℕ) (holding : Holding) (to value : ℕ) (standing : Standing) (old new : Regs)
+      → ((n : ℕ) → is_kept n ≡ true → new n ≡ old n) → new 31 ≡ old 31
+      → ((temp : ℕ) → temp < 6 → (temp == to) ≡ false → new (21 + temp) ≡ old (21 + temp))
+      → (home_of (with_home to home homes) to ≡ None → to < 6 → HoldsAs holding value (new (21 + to)))
+      → IsHome home → ((r : ℕ) → home ≡ Some r → (value ≡ new r % 2 ^ 32) × IsExtended (new r))
+      → ((temp r : ℕ) → (temp == to) ≡ false → home_of homes temp ≡ Some r → new r ≡ old r)
+      → Direct p site known homes standing old → Direct p site (behind_write to holding known) (with_home to home homes) (with_value to value standing) new
+  written known homes home holding to value standing old new same zero_same others own is there homes_same d =
+      written_held known homes home holding to value standing old new same zero_same (λ temp lt other some. others temp lt other) own is there homes_same d
 
   -- ---- arguments
   module _ (known : Known) (homes : Homes) (standing : Standing) (regs : Regs) (d : Direct p site known homes standing regs) where

@@ -12,7 +12,7 @@ use Rattle.micro_ops.specs.declared.program.Micro.TheVariants.{Compute, Probe, R
 use Rattle.program_codegen.specs.declared.homes.Homes.{Homes}
 use Rattle.program_codegen.specs.declared.lines.Line.{Line}
 use Rattle.program_codegen.specs.declared.points.Site.{Site}
-use Rattle.program_codegen.specs.Homes.{AreHomes, direct_lines, end_at, exit_behind, either_of, homes_at, is_computation, step_at, tested_at, words_at}
+use Rattle.program_codegen.specs.Homes.{AreHomes, direct_lines, end_at, exit_behind, direct_step, either_of, goes_on, homes_at, in_lines, lines_at, step_at, tested_at}
 use Rattle.program_codegen.specs.Programs.{AllFitWords, AllRanged, IsExit, IsRanged, IsRangedExit, RangedToLeave}
 use Rattle.program_codegen.specs.Words.{plain}
 
@@ -82,57 +82,64 @@ ranged_later program i d lt ranged rest = subst RangedToLeave (sym (drop_more pr
 
 -- ---- a step
 module _ (site : Site) (codes : List AlphaInstr) where
-  abbrev onward : List Micro → (Homes × List AlphaInstr) → Option (List Line)
-  onward behind step = option_map (λ (lines : List Line). map plain step.1 ++ lines) (direct_lines site codes step.0 behind)
+  abbrev onward : List Micro → (Homes × List Line) → Option (List Line)
+  onward behind step = option_map (λ (lines : List Line). step.1 ++ lines) (direct_lines site codes step.0 behind)
 
-  by_step : (homes : Homes) (operation : Micro) (behind : List Micro) → is_computation operation ≡ true → tested_at site codes homes operation behind ≡ None
-      → direct_lines site codes homes (operation ∷ behind) ≡ option_and_then (onward behind) (step_at site.sources homes operation behind)
-  by_step homes (Compute to op size a b) behind e none = ap (λ o. either_of o (option_and_then (onward behind) (step_at site.sources homes (Compute to op size a b) behind))) none
+  computed_on : (behind : List Micro) (o : Option (Homes × List AlphaInstr))
+      → option_and_then (λ (step : Homes × List AlphaInstr). option_map (λ (lines : List Line). map plain step.1 ++ lines) (direct_lines site codes step.0 behind)) o ≡ option_and_then (onward behind) (option_map in_lines o)
+  computed_on behind None = refl
+  computed_on behind (Some step) = refl
+
+  by_step : (homes : Homes) (operation : Micro) (behind : List Micro) → goes_on operation ≡ true → tested_at site codes homes operation behind ≡ None
+      → direct_lines site codes homes (operation ∷ behind) ≡ option_and_then (onward behind) (step_at site homes operation behind)
+  by_step homes (Compute to op size a b) behind e none =
+      ap (λ o. either_of o (option_and_then (λ (step : Homes × List AlphaInstr). option_map (λ (lines : List Line). map plain step.1 ++ lines) (direct_lines site codes step.0 behind)) (direct_step site.sources homes to op size a b behind))) none
+      ∙ computed_on behind (direct_step site.sources homes to op size a b behind)
+  by_step homes (Probe place count write) behind e none = refl
+  by_step homes (Read to place count) behind e none = refl
+  by_step homes (Write place count source) behind e none = refl
   by_step homes (Commit number source) behind e none = absurd (cc e)
   by_step homes (Codes n z v c) behind e none = absurd (cc e)
   by_step homes (Leave exit) behind e none = absurd (cc e)
-  by_step homes (Probe place count write) behind e none = absurd (cc e)
   by_step homes (Refuse when) behind e none = absurd (cc e)
-  by_step homes (Read to place count) behind e none = absurd (cc e)
-  by_step homes (Write place count source) behind e none = absurd (cc e)
   by_step homes (Locked to place kind source) behind e none = absurd (cc e)
   by_step homes (SetPsw source) behind e none = absurd (cc e)
 
-  module _ (homes : Homes) (program : List Micro) (i : ℕ) (d : Micro) (lt : i < length program) (is : is_computation (get_or program i d) ≡ true)
+  module _ (homes : Homes) (program : List Micro) (i : ℕ) (d : Micro) (lt : i < length program) (is : goes_on (get_or program i d) ≡ true)
       (none : tested_at site codes homes (get_or program i d) (take (length program - (i + 1)) (drop (i + 1) program)) ≡ None) where
     abbrev rest : List Micro
     rest = take (length program - (i + 1)) (drop (i + 1) program)
 
-    at_step : direct_lines site codes homes (drop i program) ≡ option_and_then (onward (drop (i + 1) program)) (step_at site.sources homes (get_or program i d) (take (length program - (i + 1)) (drop (i + 1) program)))
+    at_step : direct_lines site codes homes (drop i program) ≡ option_and_then (onward (drop (i + 1) program)) (step_at site homes (get_or program i d) (take (length program - (i + 1)) (drop (i + 1) program)))
     at_step =
         ap (direct_lines site codes homes) (drop_more program i d lt)
         ∙ (by_step homes (get_or program i d) (drop (i + 1) program) is (subst (λ behind. tested_at site codes homes (get_or program i d) behind ≡ None) (take_rest program (i + 1)) none)
-        ∙ ap (λ behind. option_and_then (onward (drop (i + 1) program)) (step_at site.sources homes (get_or program i d) behind)) (sym (take_rest program (i + 1))))
+        ∙ ap (λ behind. option_and_then (onward (drop (i + 1) program)) (step_at site homes (get_or program i d) behind)) (sym (take_rest program (i + 1))))
 
-    pub step_none : homes_at (step_at site.sources homes (get_or program i d) (take (length program - (i + 1)) (drop (i + 1) program))) ≡ None → direct_lines site codes homes (drop i program) ≡ None
-    step_none e = at_step ∙ ap (option_and_then (onward (drop (i + 1) program))) (nothing (step_at site.sources homes (get_or program i d) (take (length program - (i + 1)) (drop (i + 1) program))) e)
+    pub step_none : homes_at (step_at site homes (get_or program i d) (take (length program - (i + 1)) (drop (i + 1) program))) ≡ None → direct_lines site codes homes (drop i program) ≡ None
+    step_none e = at_step ∙ ap (option_and_then (onward (drop (i + 1) program))) (nothing (step_at site homes (get_or program i d) (take (length program - (i + 1)) (drop (i + 1) program))) e)
       where
-        nothing : (o : Option (Homes × List AlphaInstr)) → homes_at o ≡ None → o ≡ None
+        nothing : (o : Option (Homes × List Line)) → homes_at o ≡ None → o ≡ None
         nothing None e = refl
         nothing (Some step) e = absurd (cc e)
 
-    pub step_some : (now : Homes) (before behind : List Line) → homes_at (step_at site.sources homes (get_or program i d) (take (length program - (i + 1)) (drop (i + 1) program))) ≡ Some now
-        → behind ≡ before ++ map plain (words_at (step_at site.sources homes (get_or program i d) (take (length program - (i + 1)) (drop (i + 1) program))))
+    pub step_some : (now : Homes) (before behind : List Line) → homes_at (step_at site homes (get_or program i d) (take (length program - (i + 1)) (drop (i + 1) program))) ≡ Some now
+        → behind ≡ before ++ lines_at (step_at site homes (get_or program i d) (take (length program - (i + 1)) (drop (i + 1) program)))
         → option_map (λ (lines : List Line). before ++ lines) (direct_lines site codes homes (drop i program)) ≡ option_map (λ (lines : List Line). behind ++ lines) (direct_lines site codes now (drop (i + 1) program))
     step_some now before behind e words =
         ap (option_map (λ (lines : List Line). before ++ lines)) at_step
-        ∙ by (step_at site.sources homes (get_or program i d) (take (length program - (i + 1)) (drop (i + 1) program))) e words
+        ∙ by (step_at site homes (get_or program i d) (take (length program - (i + 1)) (drop (i + 1) program))) e words
       where
-        joined : (words : List AlphaInstr) (o : Option (List Line)) → option_map (λ (lines : List Line). before ++ lines) (option_map (λ (lines : List Line). map plain words ++ lines) o) ≡ option_map (λ (lines : List Line). (before ++ map plain words) ++ lines) o
-        joined words None = refl
-        joined words (Some lines) = ap (λ (lines : List Line). Some lines) (sym (append_assoc before (map plain words) lines))
+        joined : (more : List Line) (o : Option (List Line)) → option_map (λ (lines : List Line). before ++ lines) (option_map (λ (lines : List Line). more ++ lines) o) ≡ option_map (λ (lines : List Line). (before ++ more) ++ lines) o
+        joined more None = refl
+        joined more (Some lines) = ap (λ (lines : List Line). Some lines) (sym (append_assoc before more lines))
 
-        by : (o : Option (Homes × List AlphaInstr)) → homes_at o ≡ Some now → behind ≡ before ++ map plain (words_at o)
+        by : (o : Option (Homes × List Line)) → homes_at o ≡ Some now → behind ≡ before ++ lines_at o
             → option_map (λ (lines : List Line). before ++ lines) (option_and_then (onward (drop (i + 1) program)) o) ≡ option_map (λ (lines : List Line). behind ++ lines) (direct_lines site codes now (drop (i + 1) program))
         by None e words = absurd (cc e)
         by (Some step) e words =
             joined step.1 (direct_lines site codes step.0 (drop (i + 1) program))
-            ∙ (ap (λ (homes : Homes). option_map (λ (lines : List Line). (before ++ map plain step.1) ++ lines) (direct_lines site codes homes (drop (i + 1) program))) (same_Some step.0 now e)
+            ∙ (ap (λ (homes : Homes). option_map (λ (lines : List Line). (before ++ step.1) ++ lines) (direct_lines site codes homes (drop (i + 1) program))) (same_Some step.0 now e)
             ∙ ap (λ (front : List Line). option_map (λ (lines : List Line). front ++ lines) (direct_lines site codes now (drop (i + 1) program))) (sym words))
 
 pub words_behind : (sources : CodeSources) (program : List Micro) (i : ℕ) (d : Micro) → i < length program → AllFitWords sources (drop i program) → AllFitWords sources (drop (i + 1) program)

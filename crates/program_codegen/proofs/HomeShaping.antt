@@ -1,9 +1,9 @@
 -- The lines of a program whose operands are used where they stand, by themselves.
-use Rattle.std.proofs.Common.{◌≡◌, ℕ, ◌+◌, ◌-◌, ◌^◌, ◌<◌, ◌≤◌, refl, sym, ap, ap₂, ◌∙◌, subst, arith, List, [], ◌∷◌, ◌++◌, length, map, Option, Some, None, Bool, true, false, lit<, lit≤, length-append, inl, inr}
-use Rattle.std.specs.Prelude.{◌⊎◌, pos, ◌==◌, ◌&&◌, ◌||◌, is_some, not, nat_lt, All, option_and_then, option_map, if◌then◌else◌}
+use Rattle.std.proofs.Common.{◌≡◌, ℕ, ◌+◌, ◌-◌, ◌^◌, ◌<◌, ◌≤◌, refl, sym, ap, ap₂, ◌∙◌, subst, arith, List, [], ◌∷◌, ◌++◌, length, map, Option, Some, None, Bool, true, false, lit<, lit≤, length-append, inl, inr, append_assoc}
+use Rattle.std.specs.Prelude.{◌⊎◌, pos, ◌==◌, ◌&&◌, ◌||◌, is_some, not, nat_lt, All, option_and_then, option_map, if◌then◌else◌, unwrap_or, nat_le}
 use Rattle.std.specs.List.{list_all, list_any}
 use Rattle.std.proofs.lemmas.Bool.Decides.{nat_tests}
-use Rattle.std.proofs.lemmas.Bool.{ltb-true, and_from}
+use Rattle.std.proofs.lemmas.Bool.{ltb-true, and_from, and_parts}
 use Rattle.std.proofs.lemmas.List.{append-nil}
 use Rattle.std.proofs.lemmas.List.Elements.{All-nil}
 use Rattle.std.proofs.lemmas.List.Folds.{list_any-append}
@@ -12,7 +12,7 @@ use Rattle.vax_form.specs.declared.instr.Size.{Size}
 use Rattle.vax_form.specs.declared.instr.Size.TheVariants.{Byte, Word, Long, Quad}
 use Rattle.alpha_encode.specs.Words.{IsEncodable, IsSecond}
 use Rattle.alpha_encode.specs.declared.instr.AlphaInstr.{AlphaInstr}
-use Rattle.alpha_encode.specs.declared.instr.AlphaInstr.TheVariants.{Branch, Operate}
+use Rattle.alpha_encode.specs.declared.instr.AlphaInstr.TheVariants.{Branch, Operate, Pal}
 use Rattle.alpha_encode.specs.declared.instr.BranchOp.{BranchOp}
 use Rattle.alpha_meaning.specs.Act.{links}
 use Rattle.alpha_encode.specs.declared.instr.OperateOp.{OperateOp}
@@ -30,8 +30,8 @@ use Rattle.micro_ops.specs.declared.program.Micro.{Micro}
 use Rattle.micro_ops.specs.declared.program.Micro.TheVariants.{Compute, Probe, Refuse, Read, Write, Locked, Commit, Codes, SetPsw, Leave}
 use Rattle.micro_ops.specs.declared.program.MicroOp.{MicroOp}
 use Rattle.micro_ops.specs.declared.program.MicroOp.TheVariants.{Move, ZeroExtend, Add, Sub, And, Or, Xor, AndNot, Equal, Less, LessUnsigned}
-use Rattle.micro_ops.specs.Fits.{codes_fit, commit_fits, computation_fits, exit_fits, holding_of, is_ended, sources_fit, step, walk}
-use Rattle.micro_ops.specs.Known.{behind_commit, behind_write}
+use Rattle.micro_ops.specs.Fits.{codes_fit, commit_fits, computation_fits, exit_fits, holding_of, is_ended, sources_fit, step, walk, check_fits, read_fits, write_fits}
+use Rattle.micro_ops.specs.Known.{behind_commit, behind_write, behind_access}
 use Rattle.micro_ops.specs.LeftOut.{is_left_out, is_low, is_used}
 use Rattle.micro_ops.specs.Uses.{is_quad, is_select, is_unary, leaves_longword}
 use Rattle.micro_ops.specs.WordCounts.{argument_words, by_size, has_literal, is_literal, operation_words, program_words, second_words, words_of as count_of}
@@ -41,18 +41,21 @@ use Rattle.compute_sequences.specs.Words.{compute_code, is_constant, is_moved, i
 use Rattle.compute_sequences.proofs.WholeLaws.{computed_encodable, computed_length, computed_writes}
 use Rattle.block_law.specs.CodeWords.{may_be_written}
 use Rattle.block_law.specs.Tidy.{is_kept, may_fault, register_written, writes_register}
+use Rattle.micro_ops.specs.declared.known.Checked.TheVariants.{At}
+use Rattle.program_codegen.proofs.Shaping.{Faulting}
+use Rattle.program_codegen.proofs.HomeFronts.{probe_front, read_front, write_front}
 use Rattle.program_codegen.specs.declared.homes.Homes.{Homes}
 use Rattle.program_codegen.specs.declared.lines.Line.{Line}
 use Rattle.program_codegen.specs.declared.points.Site.{Site}
-use Rattle.program_codegen.specs.Homes.{AreHomes, IsHome, are_short_rules, code_by, commit_stays, compared, comparison, copied, direct_code, direct_lines, direct_step, end_lines, exit_behind, exit_stays, extended_first, extended_second, home_by, home_of, is_copying, is_shared, long_operation, made, may_end, moved_words, new_home, placed, standing_in, with_home, end_words, step_by, waiting_words, choice_lines, next_exit, tested_at, tested_exit, is_short_constant, made_size, needed_words}
+use Rattle.program_codegen.specs.Homes.{AreHomes, IsHome, are_short_rules, code_by, commit_stays, compared, comparison, copied, direct_code, direct_lines, direct_step, end_lines, exit_behind, exit_stays, extended_first, extended_second, home_by, home_of, is_copying, is_shared, long_operation, made, may_end, moved_words, new_home, placed, standing_in, with_home, end_words, step_by, waiting_words, choice_lines, next_exit, tested_at, tested_exit, is_short_constant, made_size, needed_words, is_extended, may_write, read_home, reading, settled, stands}
 use Rattle.program_codegen.specs.Programs.{AllHaveWords, IsExit}
-use Rattle.program_codegen.specs.Words.{departing, exit_lines, plain, trap_lines, words_of}
+use Rattle.program_codegen.specs.Words.{departing, exit_lines, plain, trap_lines, words_of, copy, marked, probing, write_by}
 use Rattle.program_codegen.proofs.Coded.{fine_operates}
 use Rattle.program_codegen.proofs.Endings.{above_codes, codes_local, codes_quiet, departing_each, departing_goes, departing_short, departing_spares, one_word, or_nothing, traps_silent}
 use Rattle.program_codegen.proofs.Following.{opened}
-use Rattle.program_codegen.proofs.Fronts.{Shape, any_neither, quiet_kept, row_targets, row_words_are, silent_front, spares_append, targets, targets_append, words_append}
+use Rattle.program_codegen.proofs.Fronts.{Shape, any_neither, quiet_kept, row_targets, row_words_are, silent_front, spares_append, targets, targets_append, words_append, free_front}
 use Rattle.program_codegen.proofs.HomeComputing.{compared_word, made_word, no_quad, Joined, Literally, copying, made_operates}
-use Rattle.program_codegen.proofs.HomeFollowing.{Stepped, ends_with, stepped, with_exit, row_apart, waits_same}
+use Rattle.program_codegen.proofs.HomeFollowing.{Stepped, ends_with, stepped, with_exit, row_apart, waits_same, reaching, where_false, where_true}
 use Rattle.program_codegen.proofs.HomeSomes.{chained, first_is, mapped}
 use Rattle.program_codegen.proofs.HomeTesting.{Tested, facts, tested}
 use Rattle.program_codegen.proofs.HomeHolding.{copied_home, extended_home, home_is, homes_are, placed_is}
@@ -378,15 +381,39 @@ module _ (site : Site) (codes : List AlphaInstr) (after_fits : site.after < 2 ^ 
     short = lit≤ tt;
   }
 
-  pub direct_shape : (program : List Micro) (homes : Homes) → AreHomes homes → Waiting homes → (lines : List Line) (changed : Bool) (known : Known) → direct_lines site codes homes program ≡ Some lines → AllHaveWords site.sources program
+  -- the word that waits, a reference, and the rest
+  reach_shape : (homes : Homes) → Waiting homes → (changed : Bool) → changed ≡ false → (n most : ℕ) (addresses : List ℕ) (front rest lines : List Line)
+      → (map plain (waiting_words homes.waiting) ++ front) ++ rest ≡ lines → Faulting site n front → Shape site changed codes addresses most rest
+      → Shape site changed codes addresses (n + most + length (waiting_words homes.waiting)) lines
+  reach_shape homes waits changed same_state n most addresses front rest lines whole f shape =
+      let count = plain_length (waiting_words homes.waiting) in
+      subst (Shape site changed codes addresses (n + most + length (waiting_words homes.waiting))) (sym (append_assoc (map plain (waiting_words homes.waiting)) front rest) ∙ whole)
+      (silent_front site codes addresses changed (length (waiting_words homes.waiting)) (n + most) _ (waiting_words homes.waiting) (front ++ rest) waits.encodable waits.silent (omega arith) (omega arith)
+      (free_front site codes addresses changed n most _ front rest same_state f.0 f.1 f.2 (omega arith) shape))
+
+  place_small : (homes : Homes) → AreHomes homes → (place : ℕ) → place < 6 → stands homes place < 32
+  place_small homes are place lt = by (home_of homes place) refl
+    where
+      by : (o : Option ℕ) → home_of homes place ≡ o → unwrap_or o (21 + place) < 32
+      by None e = omega arith
+      by (Some r) e = let small = (home_is homes are place r e).0 in omega arith
+
+  read_home_is : (to count : ℕ) → IsHome (read_home to count)
+  read_home_is to count = by (is_extended to count) refl
+    where
+      by : (b : Bool) → is_extended to count ≡ b → IsHome (if b then Some (21 + to) else None)
+      by true e = let few = ltb-true to 3 (and_parts (count == 4) (nat_lt to 3) e).1 in (omega arith, λ not_so. omega arith)
+      by false e = tt
+
+  pub direct_shape : (program : List Micro) (homes : Homes) → AreHomes homes → Waiting homes → (lines : List Line) (changed : Bool) → changed ≡ false → (known : Known) → direct_lines site codes homes program ≡ Some lines → AllHaveWords site.sources program
       → known.ended ≡ false → is_ended (walk site.sources known program) ≡ true → ShapeOf changed homes program lines
   unfolding step
-  direct_shape [] homes are waits lines changed known e have off walked = absurd (cc e)
-  direct_shape (Compute to op size a b ∷ program) homes are waits lines changed known e have off walked =
+  direct_shape [] homes are waits lines changed same_state known e have off walked = absurd (cc e)
+  direct_shape (Compute to op size a b ∷ program) homes are waits lines changed same_state known e have off walked =
       let behind = behind_write to (holding_of (leaves_longword (Compute to op size a b))) known in
       let x = walk_fits (computation_fits known to op a b) behind (λ behind. walk site.sources behind program) (opened site.sources known (Compute to op size a b) program off walked) in
       let off' = (write_changes to (holding_of (leaves_longword (Compute to op size a b))) known).ended ∙ off in
-      of x.1 off' (λ homes' are' waits' rest is'. direct_shape program homes' are' waits' rest changed behind is' have.1 off' x.1) (first_is (tested_at site codes homes (Compute to op size a b) program) (option_and_then (λ (step : Homes × List AlphaInstr). option_map (λ (lines : List Line). map plain step.1 ++ lines) (direct_lines site codes step.0 program)) (direct_step site.sources homes to op size a b program)) lines e)
+      of x.1 off' (λ homes' are' waits' rest is'. direct_shape program homes' are' waits' rest changed same_state behind is' have.1 off' x.1) (first_is (tested_at site codes homes (Compute to op size a b) program) (option_and_then (λ (step : Homes × List AlphaInstr). option_map (λ (lines : List Line). map plain step.1 ++ lines) (direct_lines site codes step.0 program)) (direct_step site.sources homes to op size a b program)) lines e)
     where
       homes_then : Homes
       homes_then = with_home to (new_home homes to op size a b) homes
@@ -496,28 +523,63 @@ module _ (site : Site) (codes : List AlphaInstr) (after_fits : site.after < 2 ^ 
           subst (λ (ls : List Line). ShapeOf changed homes (Compute to op size a b ∷ program) ls) m.whole
           (by c.found m.found m.is (λ homes' are' waits' is'. onward homes' are' waits' m.found is')
           (is_left_out site.sources (Compute to op size a b) program) refl (stepped site homes to op size a b program c.found (is_left_out site.sources (Compute to op size a b) program) refl c.is))
-  direct_shape (Commit number source ∷ program) homes are waits lines changed known e have off walked =
+  direct_shape (Commit number source ∷ program) homes are waits lines changed same_state known e have off walked =
       let x = walk_fits (commit_fits known number source) (behind_commit number known) (λ behind. walk site.sources behind program) (opened site.sources known (Commit number source) program off walked) in
       let z = with_exit site codes (Some (number, source)) (Commit number source) program homes lines refl e in
       let end = z.2 in
       subst (λ (ls : List Line). ShapeOf changed homes (Commit number source ∷ program) ls) end.whole
       (weaker changed (addresses_of site.after program) (60 + length (waiting_words homes.waiting)) (program_words site.sources (Commit number source ∷ program) + 59 + length (waiting_words homes.waiting)) (end_lines site homes (Some (number, source)) z.0 end.words) (omega arith)
       (ending_shape program homes are waits (Some (number, source)) z.0 end.words changed (behind_commit number known) z.1 end.moved end.may have.0.0 have.1 off x.1))
-  direct_shape (Codes n z v c ∷ program) homes are waits lines changed known e have off walked =
+  direct_shape (Codes n z v c ∷ program) homes are waits lines changed same_state known e have off walked =
       let x = walk_fits (codes_fit known n z v c) (record known { codes = true; changed = true }) (λ behind. walk site.sources behind program) (opened site.sources known (Codes n z v c) program off walked) in
       let y = with_exit site codes None (Codes n z v c) program homes lines refl e in
       let end = y.2 in
       subst (λ (ls : List Line). ShapeOf changed homes (Codes n z v c ∷ program) ls) end.whole
       (weaker changed (addresses_of site.after program) (59 + 0 + length (waiting_words homes.waiting)) (program_words site.sources (Codes n z v c ∷ program) + 59 + length (waiting_words homes.waiting)) (end_lines site homes None y.0 end.words) (omega arith)
       (ending_shape program homes are waits None y.0 end.words changed (record known { codes = true; changed = true }) y.1 end.moved end.may tt have.1 off x.1))
-  direct_shape (Leave exit ∷ program) homes are waits lines changed known e have off walked =
+  direct_shape (Leave exit ∷ program) homes are waits lines changed same_state known e have off walked =
       let end = ends_with site codes (Leave exit) program homes lines None exit refl e in
       subst (λ (ls : List Line). ShapeOf changed homes (Leave exit ∷ program) ls) end.whole
       (weaker changed (addresses_of site.after (Leave exit ∷ program)) (59 + 0 + length (waiting_words homes.waiting)) (program_words site.sources (Leave exit ∷ program) + 59 + length (waiting_words homes.waiting)) (end_lines site homes None exit end.words) (omega arith)
       (ending_shape (Leave exit ∷ program) homes are waits None exit end.words changed known refl end.moved end.may tt have off walked))
-  direct_shape (Probe place count write ∷ program) homes are waits lines changed known e have off walked = absurd (cc e)
-  direct_shape (Refuse when ∷ program) homes are waits lines changed known e have off walked = absurd (cc e)
-  direct_shape (Read to place count ∷ program) homes are waits lines changed known e have off walked = absurd (cc e)
-  direct_shape (Write place count source ∷ program) homes are waits lines changed known e have off walked = absurd (cc e)
-  direct_shape (Locked to place kind source ∷ program) homes are waits lines changed known e have off walked = absurd (cc e)
-  direct_shape (SetPsw source ∷ program) homes are waits lines changed known e have off walked = absurd (cc e)
+  direct_shape (Probe place count write ∷ program) homes are waits lines changed same_state known e have off walked =
+      let behind = behind_access (record known { checked = At place count write }) in
+      let x = walk_fits (check_fits known place count) behind (λ behind. walk site.sources behind program) (opened site.sources known (Probe place count write) program off walked) in
+      let r = reaching site codes homes (Probe place count write) program lines e in
+      let made : Homes × List Line = (settled homes, plain (copy (stands homes place) 27) ∷ marked (Pal 0x80) (probing site count write) ∷ []) in
+      let same = same_Some made r.step r.is in
+      let low = place_small homes are place have.0.0 in
+      weaker changed (addresses_of site.after program) (2 + (program_words site.sources program + 59 + 0) + length (waiting_words homes.waiting)) _ lines (omega arith)
+      (reach_shape homes waits changed same_state 2 (program_words site.sources program + 59 + 0) (addresses_of site.after program) (plain (copy (stands homes place) 27) ∷ marked (Pal 0x80) (probing site count write) ∷ []) r.rest lines
+      (ap (λ (step : Homes × List Line). (map plain (waiting_words homes.waiting) ++ step.1) ++ r.rest) same ∙ r.whole) (probe_front site (stands homes place) count write low)
+      (direct_shape program (settled homes) are (record { encodable = All-nil IsEncodable; silent = refl; operate = refl }) r.rest changed same_state behind (subst (λ (step : Homes × List Line). direct_lines site codes step.0 program ≡ Some r.rest) (sym same) r.onward) have.1 off x.1))
+  direct_shape (Refuse when ∷ program) homes are waits lines changed same_state known e have off walked = absurd (cc e)
+  direct_shape (Read to place count ∷ program) homes are waits lines changed same_state known e have off walked =
+      let behind = behind_access (behind_write to (holding_of (nat_le count 4)) known) in
+      let x = walk_fits (read_fits known to place count) behind (λ behind. walk site.sources behind program) (opened site.sources known (Read to place count) program off walked) in
+      let off' = (write_changes to (holding_of (nat_le count 4)) known).ended ∙ off in
+      let r = reaching site codes homes (Read to place count) program lines e in
+      let homes' = with_home to (read_home to count) (settled homes) in
+      let made : Homes × List Line = (with_home to (read_home to count) (settled homes), map plain (reading site.byte_word homes to place count)) in
+      let found = where_false (is_shared homes to) made r.step r.is in
+      let quiet = waits_same to (read_home to count) (settled homes) in
+      let none = ap (λ (o : Option AlphaInstr). length (waiting_words o)) quiet in
+      weaker changed (addresses_of site.after program) (count_of (Read to place count) + (program_words site.sources program + 59 + length (waiting_words homes'.waiting)) + length (waiting_words homes.waiting)) _ lines (omega arith)
+      (reach_shape homes waits changed same_state (count_of (Read to place count)) (program_words site.sources program + 59 + length (waiting_words homes'.waiting)) (addresses_of site.after program) (map plain (reading site.byte_word homes to place count)) r.rest lines
+      (ap (λ (step : Homes × List Line). (map plain (waiting_words homes.waiting) ++ step.1) ++ r.rest) found.1 ∙ r.whole) (read_front site homes are to place count have.0.0 have.0.1 have.0.2)
+      (direct_shape program homes' (homes_are to (read_home to count) (settled homes) (read_home_is to count) are) (record {
+        encodable = subst (λ (o : Option AlphaInstr). All IsEncodable (waiting_words o)) (sym quiet) (All-nil IsEncodable);
+        silent = subst (λ (o : Option AlphaInstr). list_all is_silent (waiting_words o) ≡ true) (sym quiet) refl;
+        operate = subst (λ (o : Option AlphaInstr). list_all is_operate (waiting_words o) ≡ true) (sym quiet) refl;
+      }) r.rest changed same_state behind (subst (λ (step : Homes × List Line). direct_lines site codes step.0 program ≡ Some r.rest) (sym found.1) r.onward) have.1 off' x.1))
+  direct_shape (Write place count source ∷ program) homes are waits lines changed same_state known e have off walked =
+      let x = walk_fits (write_fits known place count source) (behind_access known) (λ behind. walk site.sources behind program) (opened site.sources known (Write place count source) program off walked) in
+      let r = reaching site codes homes (Write place count source) program lines e in
+      let made : Homes × List Line = (settled homes, map plain (write_by site.byte_word (stands homes place) count (stands homes source))) in
+      let found = where_true (may_write homes count source) made r.step r.is in
+      weaker changed (addresses_of site.after program) (count_of (Write place count source) + (program_words site.sources program + 59 + 0) + length (waiting_words homes.waiting)) _ lines (omega arith)
+      (reach_shape homes waits changed same_state (count_of (Write place count source)) (program_words site.sources program + 59 + 0) (addresses_of site.after program) (map plain (write_by site.byte_word (stands homes place) count (stands homes source))) r.rest lines
+      (ap (λ (step : Homes × List Line). (map plain (waiting_words homes.waiting) ++ step.1) ++ r.rest) found.1 ∙ r.whole) (write_front site homes are place count source have.0.0 have.0.1 have.0.2)
+      (direct_shape program (settled homes) are (record { encodable = All-nil IsEncodable; silent = refl; operate = refl }) r.rest changed same_state (behind_access known) (subst (λ (step : Homes × List Line). direct_lines site codes step.0 program ≡ Some r.rest) (sym found.1) r.onward) have.1 off x.1))
+  direct_shape (Locked to place kind source ∷ program) homes are waits lines changed same_state known e have off walked = absurd (cc e)
+  direct_shape (SetPsw source ∷ program) homes are waits lines changed same_state known e have off walked = absurd (cc e)

@@ -57,6 +57,8 @@ pub mod HomeFollowing
 pub mod HomeShaping
 pub mod Chosen
 pub mod HomePushing
+pub mod HomeReaching
+pub mod HomeFronts
 pub mod Promised
 pub mod Targets
 pub mod CallCompiled

@@ -240,7 +240,7 @@ module _ (p : Placement) (site : Site) (table : IsPageTable p.pages) (kinds : Mo
       let plain_all = length-append (map plain code) [] in
       roomy p None (length code + need) (length (map plain code) + need) (at_place regs pc) _ (omega arith)
       (writes_operand p site table 4 kinds (λ left. t) need pc 2 4 0 rest known2 aligned_standing regs (Leaves (left_at site standing)) w some
-      (rw (ready.first, ready.list, ready.unchanged) refl) (record { low = lit≤ tt; high = lit≤ tt }) (record { low = lit≤ tt; high = lit≤ tt }) c4 refl h2
+      (rw (ready.first, ready.list, ready.unchanged) refl) (record { high = lit≤ tt }) (record { high = lit≤ tt }) c4 refl h2
       (λ g h3. behind g (pc + length code) (row_rest p site.behind pc code rest w) (unchecked (At 2 4 true) g h3)))
 
   -- all that stands behind the operands

@@ -124,6 +124,10 @@ module _ (pages : Pages) (table : IsPageTable pages) where
   pub within_space : (write : Bool) (address count : ℕ) → 0 < count → count ≤ 8 → IsUsable pages write address count → address + count ≤ 2 ^ 32
   within_space write address count some few usage = let low = in_space pages address write table (first_byte write address count some usage) in omega arith
 
+  -- the addresses that may be used are low
+  pub is_low_address : (write : Bool) (address count : ℕ) → 0 < count → IsUsable pages write address count → address < 2 ^ 31
+  is_low_address write address count some usage = in_space pages address write table (first_byte write address count some usage)
+
   pub quad_usable : (write : Bool) (address count : ℕ) → 0 < count → IsUsable pages write address count → is_allowed pages (address / 8 * 8) write ≡ true
   quad_usable write address count some usage = in_quad pages write address (first_byte write address count some usage)
 

@@ -1,12 +1,11 @@
 -- The points of a block are the same with the byte-word extension and without it, but for the words at which they stand.
 use Rattle.std.proofs.Common.{◌≡◌, ℕ, zero, suc, ◌+◌, length, refl, sym, ap, ◌∙◌, subst, List, [], ◌∷◌, ◌++◌, map, Bool, true, false, Option, Some, None, cond}
-use Rattle.std.specs.Prelude.{◌==◌, option_and_then, option_map, unwrap_or}
-use Rattle.std.proofs.lemmas.Option.{same_Some}
+use Rattle.std.specs.Prelude.{◌==◌, option_and_then, option_map, unwrap_or, if◌then◌else◌}
 use Rattle.vax_form.specs.declared.instr.Instr.{Instr}
 use Rattle.vax_form.specs.declared.operation.LongOperation.TheVariants.{CallStack, MoveCharacters}
 use Rattle.vax_form.specs.declared.pages.Pages.{Pages}
 use Rattle.alpha_encode.specs.declared.instr.AlphaInstr.{AlphaInstr}
-use Rattle.alpha_encode.specs.declared.instr.AlphaInstr.TheVariants.{Memory}
+use Rattle.alpha_encode.specs.declared.instr.AlphaInstr.TheVariants.{Memory, Pal}
 use Rattle.alpha_encode.specs.declared.instr.MemoryOp.TheVariants.{Lda}
 use Rattle.exception_records.specs.Codes.{all_ready}
 use Rattle.exception_records.specs.declared.points.Point.{Point}
@@ -20,16 +19,16 @@ use Rattle.micro_ops.specs.declared.program.MicroOp.{MicroOp}
 use Rattle.micro_ops.specs.declared.program.Exit.TheVariants.{Next, Fixed, Computed, Choice, Service, Breakpoint}
 use Rattle.micro_ops.specs.declared.program.Micro.{Micro}
 use Rattle.micro_ops.specs.declared.program.Micro.TheVariants.{Compute, Probe, Refuse, Read, Write, Locked, Commit, Codes, SetPsw, Leave}
-use Rattle.byte_sequences.specs.Words.{read_code, bw_word_read, bw_read_code, write_code, bw_write_code}
+use Rattle.byte_sequences.specs.Words.{read_code, bw_word_read, bw_read_code, write_code, bw_write_code, extended_read}
 use Rattle.program_codegen.specs.declared.calls.Call.{Call}
 use Rattle.program_codegen.specs.declared.homes.Homes.{Homes}
 use Rattle.program_codegen.specs.declared.lines.Line.{Line}
 use Rattle.program_codegen.specs.declared.points.Site.{Site}
 use Rattle.program_codegen.specs.Strings.{behind_words, move_words, operands_of, steps_of as steps_of_move, string_block, string_check, string_lines, string_site}
 use Rattle.program_codegen.specs.Blocks.{chosen_lines, program_block}
-use Rattle.program_codegen.specs.Homes.{direct_end, direct_lines, direct_step, either_of, end_at, next_exit, no_homes, tested_at, tested_exit}
+use Rattle.program_codegen.specs.Homes.{direct_end, direct_lines, direct_step, either_of, end_at, next_exit, no_homes, tested_at, tested_exit, is_extended, is_shared, may_write, read_home, reading, settled, stands, waiting_words, with_home, with_waiting}
 use Rattle.program_codegen.specs.Calls.{align_frame, call_at, call_block, call_lines, call_site, check_lines, checks_from, count_lines, displacement, entry_words, frame_of, frame_program, front_program, list_program, pushes_from, steps_of}
-use Rattle.program_codegen.specs.Words.{block_of, exit_lines, holder, lines_of, plain, point_of, points_alone, points_from, program_lines, read_by, site_of, with_entry, with_first, write_by}
+use Rattle.program_codegen.specs.Words.{block_of, exit_lines, holder, lines_of, plain, point_of, points_alone, points_from, program_lines, read_by, site_of, with_entry, with_first, write_by, copy, marked, probing}
 
 -- ---- the points of lines
 abbrev with_point : Option Point → List Point → List Point
@@ -204,31 +203,96 @@ module _ (instr : Instr) (sources : CodeSources) (before behind : Rules) (byte_w
   tested_same homes to op size a b (Some (Service temp)) = refl
   tested_same homes to op size a b (Some Breakpoint) = refl
 
-  direct_same : (program : List Micro) (homes : Homes) → direct_lines here codes homes program ≡ direct_lines there codes homes program
-  direct_same [] homes = refl
-  direct_same (Compute to op size a b ∷ program) homes =
-      ap (λ (o : Option (List Line)). either_of o (option_and_then (λ (step : Homes × List AlphaInstr). option_map (λ (lines : List Line). map plain step.1 ++ lines) (direct_lines here codes step.0 program)) (direct_step sources homes to op size a b program)))
-      (tested_same homes to op size a b (next_exit program))
-      ∙ ap (either_of (tested_at there codes homes (Compute to op size a b) program)) (by (λ (h : Homes). direct_same program h) (direct_step sources homes to op size a b program))
+  -- lines of both, or of neither
+  abbrev BothAlike : (o q : Option (List Line)) → Type 0
+  BothAlike None None = Unit {0}
+  BothAlike (Some lines) (Some more) = Alike lines more
+  BothAlike None (Some more) = ⊥
+  BothAlike (Some lines) None = ⊥
+
+  same_both : (o q : Option (List Line)) → o ≡ q → BothAlike o q
+  same_both o q e = subst (BothAlike o) e (by o)
     where
-      by : ((h : Homes) → direct_lines here codes h program ≡ direct_lines there codes h program) → (o : Option (Homes × List AlphaInstr))
-          → option_and_then (λ (step : Homes × List AlphaInstr). option_map (λ (lines : List Line). map plain step.1 ++ lines) (direct_lines here codes step.0 program)) o
-          ≡ option_and_then (λ (step : Homes × List AlphaInstr). option_map (λ (lines : List Line). map plain step.1 ++ lines) (direct_lines there codes step.0 program)) o
-      by same None = refl
-      by same (Some step) = ap (option_map (λ (lines : List Line). map plain step.1 ++ lines)) (same step.0)
-  direct_same (Commit number source ∷ program) homes = ends_same homes (end_at sources (Commit number source) program)
-  direct_same (Codes n z v c ∷ program) homes = ends_same homes (end_at sources (Codes n z v c) program)
-  direct_same (Leave exit ∷ program) homes = end_same homes None exit
-  direct_same (operation ∷ program) homes = refl
+      by : (o : Option (List Line)) → BothAlike o o
+      by None = tt
+      by (Some lines) = are_same lines
+
+  either_alike : (t u r s : Option (List Line)) → t ≡ u → BothAlike r s → BothAlike (either_of t r) (either_of u s)
+  either_alike t u r s e h = subst (λ (u : Option (List Line)). BothAlike (either_of t r) (either_of u s)) e (by t)
+    where
+      by : (t : Option (List Line)) → BothAlike (either_of t r) (either_of t s)
+      by None = h
+      by (Some lines) = are_same lines
+
+  mapped_alike : (front more : List Line) (o q : Option (List Line)) → Alike front more → BothAlike o q → BothAlike (option_map (λ (lines : List Line). front ++ lines) o) (option_map (λ (lines : List Line). more ++ lines) q)
+  mapped_alike front more None None same h = tt
+  mapped_alike front more (Some lines) (Some lines') same h = both_alike front more lines lines' same h
+  mapped_alike front more None (Some lines') same h = h
+  mapped_alike front more (Some lines) None same h = h
+
+  reading_alike : (homes : Homes) (to place count : ℕ) → Alike (map plain (reading byte_word homes to place count)) (map plain (reading other homes to place count))
+  reading_alike homes to place count = by (is_extended to count)
+    where
+      by : (b : Bool) → Alike (map plain (if b then extended_read (stands homes place) (holder to) else read_by byte_word (stands homes place) count (holder to))) (map plain (if b then extended_read (stands homes place) (holder to) else read_by other (stands homes place) count (holder to)))
+      by true = are_same (map plain (extended_read (stands homes place) (holder to)))
+      by false = plain_alike (read_by byte_word (stands homes place) count (holder to)) (read_by other (stands homes place) count (holder to)) (reads_some byte_word (stands homes place) count (holder to)) (reads_some other (stands homes place) count (holder to))
+
+  direct_alike : (program : List Micro) (homes : Homes) → BothAlike (direct_lines here codes homes program) (direct_lines there codes homes program)
+  direct_alike [] homes = tt
+  direct_alike (Compute to op size a b ∷ program) homes =
+      either_alike (tested_at here codes homes (Compute to op size a b) program) (tested_at there codes homes (Compute to op size a b) program) _ _
+      (tested_same homes to op size a b (next_exit program)) (by (λ (h : Homes). direct_alike program h) (direct_step sources homes to op size a b program))
+    where
+      by : ((h : Homes) → BothAlike (direct_lines here codes h program) (direct_lines there codes h program)) → (o : Option (Homes × List AlphaInstr))
+          → BothAlike (option_and_then (λ (step : Homes × List AlphaInstr). option_map (λ (lines : List Line). map plain step.1 ++ lines) (direct_lines here codes step.0 program)) o)
+          (option_and_then (λ (step : Homes × List AlphaInstr). option_map (λ (lines : List Line). map plain step.1 ++ lines) (direct_lines there codes step.0 program)) o)
+      by alike None = tt
+      by alike (Some step) = mapped_alike (map plain step.1) (map plain step.1) (direct_lines here codes step.0 program) (direct_lines there codes step.0 program) (are_same (map plain step.1)) (alike step.0)
+  direct_alike (Probe place count write ∷ program) homes =
+      let front = map plain (waiting_words homes.waiting) ++ (plain (copy (stands homes place) 27) ∷ marked (Pal 0x80) (probing here count write) ∷ []) in
+      mapped_alike front front (direct_lines here codes (settled homes) program) (direct_lines there codes (settled homes) program) (are_same front) (direct_alike program (settled homes))
+  direct_alike (Read to place count ∷ program) homes = by (is_shared homes to) (direct_alike program homes')
+    where
+      homes' : Homes
+      homes' = with_home to (read_home to count) (settled homes)
+
+      by : (b : Bool) → BothAlike (direct_lines here codes homes' program) (direct_lines there codes homes' program)
+          → BothAlike (option_and_then (λ (step : Homes × List Line). option_map (λ (lines : List Line). step.1 ++ lines) (direct_lines here codes step.0 program)) (option_map (with_waiting homes) (if b then None else Some (homes', map plain (reading byte_word homes to place count)))))
+          (option_and_then (λ (step : Homes × List Line). option_map (λ (lines : List Line). step.1 ++ lines) (direct_lines there codes step.0 program)) (option_map (with_waiting homes) (if b then None else Some (homes', map plain (reading other homes to place count)))))
+      by true h = tt
+      by false h =
+          mapped_alike (map plain (waiting_words homes.waiting) ++ map plain (reading byte_word homes to place count)) (map plain (waiting_words homes.waiting) ++ map plain (reading other homes to place count))
+          (direct_lines here codes homes' program) (direct_lines there codes homes' program)
+          (both_alike (map plain (waiting_words homes.waiting)) (map plain (waiting_words homes.waiting)) (map plain (reading byte_word homes to place count)) (map plain (reading other homes to place count)) (are_same (map plain (waiting_words homes.waiting))) (reading_alike homes to place count)) h
+  direct_alike (Write place count source ∷ program) homes = by (may_write homes count source) (direct_alike program (settled homes))
+    where
+      words : Bool → List AlphaInstr
+      words byte_word = write_by byte_word (stands homes place) count (stands homes source)
+
+      by : (b : Bool) → BothAlike (direct_lines here codes (settled homes) program) (direct_lines there codes (settled homes) program)
+          → BothAlike (option_and_then (λ (step : Homes × List Line). option_map (λ (lines : List Line). step.1 ++ lines) (direct_lines here codes step.0 program)) (option_map (with_waiting homes) (if b then Some (settled homes, map plain (write_by byte_word (stands homes place) count (stands homes source))) else None)))
+          (option_and_then (λ (step : Homes × List Line). option_map (λ (lines : List Line). step.1 ++ lines) (direct_lines there codes step.0 program)) (option_map (with_waiting homes) (if b then Some (settled homes, map plain (write_by other (stands homes place) count (stands homes source))) else None)))
+      by false h = tt
+      by true h =
+          mapped_alike (map plain (waiting_words homes.waiting) ++ map plain (write_by byte_word (stands homes place) count (stands homes source))) (map plain (waiting_words homes.waiting) ++ map plain (write_by other (stands homes place) count (stands homes source)))
+          (direct_lines here codes (settled homes) program) (direct_lines there codes (settled homes) program)
+          (both_alike (map plain (waiting_words homes.waiting)) (map plain (waiting_words homes.waiting)) (map plain (write_by byte_word (stands homes place) count (stands homes source))) (map plain (write_by other (stands homes place) count (stands homes source))) (are_same (map plain (waiting_words homes.waiting)))
+          (plain_alike (write_by byte_word (stands homes place) count (stands homes source)) (write_by other (stands homes place) count (stands homes source)) (writes_some byte_word (stands homes place) count (stands homes source)) (writes_some other (stands homes place) count (stands homes source)))) h
+  direct_alike (Commit number source ∷ program) homes = same_both _ _ (ends_same homes (end_at sources (Commit number source) program))
+  direct_alike (Codes n z v c ∷ program) homes = same_both _ _ (ends_same homes (end_at sources (Codes n z v c) program))
+  direct_alike (Leave exit ∷ program) homes = same_both _ _ (end_same homes None exit)
+  direct_alike (Refuse when ∷ program) homes = tt
+  direct_alike (Locked to place kind source ∷ program) homes = tt
+  direct_alike (SetPsw source ∷ program) homes = tt
 
   chosen_alike : (program : List Micro) → Alike (chosen_lines here codes program) (chosen_lines there codes program)
-  chosen_alike program = by (direct_lines here codes no_homes program) (direct_lines there codes no_homes program) (direct_same program no_homes)
+  chosen_alike program = by (direct_lines here codes no_homes program) (direct_lines there codes no_homes program) (direct_alike program no_homes)
     where
-      by : (o q : Option (List Line)) → o ≡ q → Alike (unwrap_or o (program_lines here codes program)) (unwrap_or q (program_lines there codes program))
+      by : (o q : Option (List Line)) → BothAlike o q → Alike (unwrap_or o (program_lines here codes program)) (unwrap_or q (program_lines there codes program))
       by None None e = program_alike program
-      by (Some lines) (Some more) e = subst (Alike lines) (same_Some lines more e) (are_same lines)
-      by None (Some more) e = absurd (cc e)
-      by (Some lines) None e = absurd (cc e)
+      by (Some lines) (Some more) alike = alike
+      by None (Some more) none = absurd none
+      by (Some lines) None none = absurd none
 
   pub block_points : (program : List Micro)
       → points_alone (program_block instr sources program codes before behind byte_word).points ≡ points_alone (program_block instr sources program codes before behind other).points

@@ -1,17 +1,18 @@
--- The words of programs that make no reference. An operand that is a VAX register is used where it stands, and the words that
+-- The words of programs that use operands where they stand. An operand that is a VAX register has no copy, and the words that
 -- leave the codes come before the register that is written, so that no operand is lost before they read it.
 use Rattle.std.specs.Prelude.{◌≡◌, ℕ, pos, ◌+◌, ◌-◌, ◌<◌, ◌≤◌, ◌==◌, ◌&&◌, ◌||◌, not, nat_lt, Bool, true, false, List, [], ◌∷◌, ◌++◌, length, map, Option, Some, None, is_none, is_some, unwrap_or, option_map, option_and_then, if◌then◌else◌}
 use Rattle.vax_form.specs.declared.instr.Size.{Size}
 use Rattle.vax_form.specs.declared.instr.Size.TheVariants.{Byte, Long}
 use Rattle.alpha_encode.specs.declared.instr.AlphaInstr.{AlphaInstr}
-use Rattle.alpha_encode.specs.declared.instr.AlphaInstr.TheVariants.{Branch, Operate}
+use Rattle.alpha_encode.specs.declared.instr.AlphaInstr.TheVariants.{Branch, Operate, Pal}
 use Rattle.alpha_encode.specs.declared.instr.BranchOp.{BranchOp}
 use Rattle.alpha_encode.specs.declared.instr.BranchOp.TheVariants.{Beq, Blbc}
 use Rattle.alpha_encode.specs.declared.instr.OperateOp.{OperateOp}
 use Rattle.alpha_encode.specs.declared.instr.OperateOp.TheVariants as row
 use Rattle.alpha_encode.specs.declared.instr.Second.{Second}
 use Rattle.alpha_encode.specs.declared.instr.Second.TheVariants as seconds
-use Rattle.alpha_encode.specs.Registers.{CARRY_FIRST, NEGATIVE, TEMPORARIES, RULE_FIRST, RULE_SECOND, CARRY_SECOND, ZERO}
+use Rattle.alpha_encode.specs.Calls.{PROBE}
+use Rattle.alpha_encode.specs.Registers.{ADDRESS, CARRY_FIRST, NEGATIVE, TEMPORARIES, RULE_FIRST, RULE_SECOND, CARRY_SECOND, ZERO}
 use Rattle.exception_records.specs.declared.rules.CodeRule.{CodeRule}
 use Rattle.exception_records.specs.declared.rules.CodeRule.TheVariants as rules
 use Rattle.exception_records.specs.declared.rules.Rules.{Rules}
@@ -23,16 +24,17 @@ use Rattle.micro_ops.specs.declared.program.Arg.TheVariants as arguments
 use Rattle.micro_ops.specs.declared.program.Exit.{Exit}
 use Rattle.micro_ops.specs.declared.program.Exit.TheVariants.{Next, Fixed, Choice}
 use Rattle.micro_ops.specs.declared.program.Micro.{Micro}
-use Rattle.micro_ops.specs.declared.program.Micro.TheVariants.{Compute, Commit, Codes, Leave}
+use Rattle.micro_ops.specs.declared.program.Micro.TheVariants.{Compute, Probe, Read, Write, Commit, Codes, Leave}
 use Rattle.micro_ops.specs.declared.program.MicroOp.{MicroOp}
 use Rattle.micro_ops.specs.declared.program.MicroOp.TheVariants.{Add, Sub, And, Or, Xor, AndNot, Equal, Less, LessUnsigned, Move}
+use Rattle.byte_sequences.specs.Words.{extended_read}
 use Rattle.compute_sequences.specs.Words.{compute_code, is_constant, is_moved, is_short}
 use Rattle.program_codegen.specs.declared.direct.Raised.{Raised}
 use Rattle.alpha_meaning.specs.Loops.{written}
 use Rattle.program_codegen.specs.declared.homes.Homes.{Homes}
 use Rattle.program_codegen.specs.declared.lines.Line.{Line}
 use Rattle.program_codegen.specs.declared.points.Site.{Site}
-use Rattle.program_codegen.specs.Words.{plain, holder, exit_lines, may_trap, trap_lines, departing}
+use Rattle.program_codegen.specs.Words.{plain, marked, holder, copy, probing, exit_lines, may_trap, read_by, trap_lines, departing, write_by}
 
 -- ---- homes
 -- Temporaries 0 to 2 may be the low longword of a register that is extended with its sign: of a VAX register, or of one of
@@ -480,20 +482,72 @@ direct_step sources homes to op size a b behind =
     then Some (direct_by homes to op size a b)
     else None
 
-abbrev pub is_computation : Micro → Bool
-is_computation (Compute to op size a b) = true
-is_computation operation = false
+-- ---- references
+-- Homes outlast a reference: it writes scratch alone, and what it reads. Its address is the low longword of the place's home,
+-- and behind its check, since no page has a longer one, the home itself.
+abbrev pub stands : Homes → (temp : ℕ) → ℕ
+stands homes temp = unwrap_or (home_of homes temp) (holder temp)
 
-abbrev pub step_at : CodeSources → Homes → Micro → (behind : List Micro) → Option (Homes × List AlphaInstr)
-step_at sources homes (Compute to op size a b) behind = direct_step sources homes to op size a b behind
-step_at sources homes operation behind = None
+abbrev pub settled : Homes → Homes
+settled homes = record homes { waiting = None }
 
-abbrev pub words_at : Option (Homes × List AlphaInstr) → List AlphaInstr
-words_at None = []
-words_at (Some step) = step.1
+-- a longword that is read into temporaries 0 to 2 is extended with its sign
+abbrev pub is_extended : (to count : ℕ) → Bool
+is_extended to count = count == 4 && nat_lt to 3
 
-abbrev pub homes_at : Option (Homes × List AlphaInstr) → Option Homes
-homes_at step = option_map (λ (step : Homes × List AlphaInstr). step.0) step
+abbrev pub read_home : (to count : ℕ) → Option ℕ
+read_home to count = if is_extended to count then Some (holder to) else None
+
+abbrev pub reading : (byte_word : Bool) → Homes → (to place count : ℕ) → List AlphaInstr
+reading byte_word homes to place count =
+    if is_extended to count then extended_read (stands homes place) (holder to)
+    else read_by byte_word (stands homes place) count (holder to)
+
+-- the low longword of a home may be written
+abbrev pub may_write : Homes → (count from : ℕ) → Bool
+may_write homes count from = is_none (home_of homes from) || count == 4
+
+-- where the temporaries stand behind a reference, and its lines; none where another stands in the register that is read into
+abbrev pub reached : Site → Homes → Micro → Option (Homes × List Line)
+reached site homes (Probe place count write) =
+    Some (settled homes, plain (copy (stands homes place) ADDRESS) ∷ marked (Pal PROBE) (probing site count write) ∷ [])
+reached site homes (Read to place count) =
+    if is_shared homes to then None
+    else Some (with_home to (read_home to count) (settled homes), map plain (reading site.byte_word homes to place count))
+reached site homes (Write place count from) =
+    if may_write homes count from
+    then Some (settled homes, map plain (write_by site.byte_word (stands homes place) count (stands homes from)))
+    else None
+reached site homes operation = None
+
+-- the word that waits comes first
+abbrev pub with_waiting : Homes → Homes × List Line → Homes × List Line
+with_waiting homes step = (step.0, map plain (waiting_words homes.waiting) ++ step.1)
+
+abbrev pub reach : Site → Homes → Micro → Option (Homes × List Line)
+reach site homes operation = option_map (with_waiting homes) (reached site homes operation)
+
+-- ---- a step
+abbrev pub goes_on : Micro → Bool
+goes_on (Compute to op size a b) = true
+goes_on (Probe place count write) = true
+goes_on (Read to place count) = true
+goes_on (Write place count from) = true
+goes_on operation = false
+
+abbrev pub in_lines : Homes × List AlphaInstr → Homes × List Line
+in_lines step = (step.0, map plain step.1)
+
+abbrev pub step_at : Site → Homes → Micro → (behind : List Micro) → Option (Homes × List Line)
+step_at site homes (Compute to op size a b) behind = option_map in_lines (direct_step site.sources homes to op size a b behind)
+step_at site homes operation behind = reach site homes operation
+
+abbrev pub lines_at : Option (Homes × List Line) → List Line
+lines_at None = []
+lines_at (Some step) = step.1
+
+abbrev pub homes_at : Option (Homes × List Line) → Option Homes
+homes_at step = option_map (λ (step : Homes × List Line). step.0) step
 
 -- the lines from an operation on with which a program comes to its end
 abbrev pub ended_lines : Site → (codes : List AlphaInstr) → Homes → Micro → (behind : List Micro) → Option (List Line)
@@ -564,8 +618,8 @@ abbrev pub either_of : (one other : Option (List Line)) → Option (List Line)
 either_of None other = other
 either_of (Some lines) other = Some lines
 
--- The lines of a program from an operation on; none where it makes a reference, or writes two registers, or where operands
--- can't be used where they stand.
+-- The lines of a program from an operation on; none where it makes an interlocked reference, or writes two registers, or where
+-- operands can't be used where they stand.
 abbrev pub direct_lines : Site → (codes : List AlphaInstr) → Homes → List Micro → Option (List Line)
 direct_lines site codes homes [] = None
 direct_lines site codes homes (Compute to op size a b ∷ program) =
@@ -573,4 +627,16 @@ direct_lines site codes homes (Compute to op size a b ∷ program) =
     (option_and_then
     (λ (step : Homes × List AlphaInstr). option_map (λ (lines : List Line). map plain step.1 ++ lines) (direct_lines site codes step.0 program))
     (direct_step site.sources homes to op size a b program))
+direct_lines site codes homes (Probe place count write ∷ program) =
+    option_and_then
+    (λ (step : Homes × List Line). option_map (λ (lines : List Line). step.1 ++ lines) (direct_lines site codes step.0 program))
+    (reach site homes (Probe place count write))
+direct_lines site codes homes (Read to place count ∷ program) =
+    option_and_then
+    (λ (step : Homes × List Line). option_map (λ (lines : List Line). step.1 ++ lines) (direct_lines site codes step.0 program))
+    (reach site homes (Read to place count))
+direct_lines site codes homes (Write place count from ∷ program) =
+    option_and_then
+    (λ (step : Homes × List Line). option_map (λ (lines : List Line). step.1 ++ lines) (direct_lines site codes step.0 program))
+    (reach site homes (Write place count from))
 direct_lines site codes homes (operation ∷ program) = ended_lines site codes homes operation program

@@ -1,13 +1,14 @@
-// The words of programs that make no reference.
+// The words of programs whose operands are used where they stand.
 ghost use Rattle.std.specs.Prelude.{◌≡◌, ◌++◌, ◌∷◌, IfOk, IfSome, OnOk, MatchOption, None, Some, map, true};
 ghost use Rattle.program_codegen.specs.Words.{plain};
-ghost use Rattle.program_codegen.specs.Homes.{is_operand, is_operand_second, second_home, is_choice, unmoved, moved_operand, moved_both, moved_first, moved_by, is_raised, raised_at, raised_second, with_raised, have_homes, raised_home, compared_raised, moved_word, moved_step, moved_words, is_short_rule, are_short_rules, is_wordless, exit_of, exit_behind, with_commit, end_at, exit_stays, commit_stays, commit_words, may_end, direct_end, ended_lines, is_computation, homes_at, step_at, words_at, direct_lines, no_homes, AreHomes, end_words};
+ghost use Rattle.program_codegen.specs.Homes.{is_operand, is_operand_second, second_home, is_choice, unmoved, moved_operand, moved_both, moved_first, moved_by, is_raised, raised_at, raised_second, with_raised, have_homes, raised_home, compared_raised, moved_word, moved_step, moved_words, is_short_rule, are_short_rules, is_wordless, exit_of, exit_behind, with_commit, end_at, exit_stays, commit_stays, commit_words, may_end, direct_end, ended_lines, goes_on, homes_at, step_at, lines_at, direct_lines, no_homes, AreHomes, end_words};
 ghost use Rattle.program_codegen.specs.Programs.{AllFitWords, HasWords, IsExit, IsRanged, IsRangedExit, RangedToLeave, is_narrow};
 
 use crate::homes::{Homes, NO_HOMES, home_at, home_of, is_direct, push_direct};
 use crate::leaving::{push_departing, push_trap};
 use crate::lines::{Line, holder, push_words};
 use crate::points::Site;
+use crate::reached::reach;
 use crate::spared::end_words;
 use crate::tested::tested_at;
 use alpha_encode::registers::{CARRY_FIRST, CARRY_SECOND, RULE_FIRST, RULE_SECOND, TEMPORARIES};
@@ -437,32 +438,41 @@ fn end_at(sources: CodeSources, operation: Micro, behind: &[Micro]) -> Option<(C
     }
 }
 
-fn is_computation(operation: Micro) -> bool
-    ensures { result ≡ is_computation operation }
+/// Whether a program goes on by an operation as it does with operands where they stand.
+fn goes_on(operation: Micro) -> bool
+    ensures { result ≡ goes_on operation }
 {
-    matches!(operation, Micro::Compute { .. })
+    matches!(
+        operation,
+        Micro::Compute { .. } | Micro::Probe { .. } | Micro::Read { .. } | Micro::Write { .. }
+    )
 }
 
-/// The words of a computation, of which one that is left out has none, and where the temporaries stand behind them.
+/// The words of a computation, of which one that is left out has none, or those of a reference, and where the temporaries stand
+/// behind them.
 fn push_step(
     alloc: Global,
     lines: &mut Vec<Line>,
-    sources: CodeSources,
+    site: Site,
     homes: Homes,
     operation: Micro,
     behind: &[Micro],
 ) -> Result<Option<Homes>, WantOfMemory>
-    requires words { IsRanged operation → HasWords sources operation behind.now }
+    requires words { IsRanged operation → HasWords site.sources operation behind.now }
     requires homes { AreHomes homes }
-    ensures homes { IfOk result (λ now. now ≡ homes_at (step_at sources homes operation behind.now)) }
-    ensures lines { OnOk result (lines.new.items ≡ lines.old.items ++ map plain (words_at (step_at sources homes operation behind.now))) }
+    ensures homes { IfOk result (λ now. now ≡ homes_at (step_at site homes operation behind.now)) }
+    ensures lines { OnOk result (lines.new.items ≡ lines.old.items ++ lines_at (step_at site homes operation behind.now)) }
     ensures are { IfOk result (λ now. IfSome now AreHomes) }
     ensures ranged { IsRanged operation }
 {
     let Micro::Compute { to, op, size, a, b } = operation else {
-        return Ok(None);
+        let Some((now, more)) = reach(alloc, site, homes, operation, behind)? else {
+            return Ok(None);
+        };
+        lines.extend_from_slice(&more)?;
+        return Ok(Some(now));
     };
-    if is_left_out(sources, operation, behind) {
+    if is_left_out(site.sources, operation, behind) {
         return Ok(Some(homes));
     }
     if !is_direct(homes, to, op, size, a, b) {
@@ -491,8 +501,8 @@ fn ended_lines(
     }
 }
 
-/// The lines of a program; none where it makes a reference, or writes two registers, or where operands can't be used where
-/// they stand.
+/// The lines of a program; none where it makes an interlocked reference, or writes two registers, or where operands can't be
+/// used where they stand.
 pub(crate) fn direct_lines(
     alloc: Global,
     site: Site,
@@ -508,7 +518,7 @@ pub(crate) fn direct_lines(
     let mut homes = NO_HOMES;
     for i in 0..program.len() {
         let behind = &program[i + 1..];
-        if !is_computation(program[i]) {
+        if !goes_on(program[i]) {
             let Some(end) = ended_lines(alloc, site, codes, homes, program[i], behind)? else {
                 return Ok(None);
             };
@@ -519,7 +529,7 @@ pub(crate) fn direct_lines(
             lines.extend_from_slice(&end)?;
             return Ok(Some(lines));
         }
-        match push_step(alloc, &mut lines, site.sources, homes, program[i], behind)? {
+        match push_step(alloc, &mut lines, site, homes, program[i], behind)? {
             Some(now) => homes = now,
             None => return Ok(None),
         }

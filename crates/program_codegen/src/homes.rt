@@ -1,4 +1,4 @@
-// Where the temporaries of a program that makes no reference stand, and the words of its computations.
+// Where the temporaries of a program stand, and the words of its computations.
 ghost use Rattle.std.specs.Prelude.{◌≡◌, ◌++◌, ◌≤◌, OnOk, IfOk, false, map};
 ghost use Rattle.compute_sequences.specs.Registers.{IsArgument, IsTarget};
 ghost use Rattle.micro_ops.specs.Uses.{is_unary};
@@ -18,7 +18,7 @@ const VAX_REGISTERS: u8 = 15;
 /// The temporary of a result.
 const RESULT: u8 = 2;
 /// How many temporaries may have a home.
-const HOMES: u8 = 3;
+pub(crate) const HOMES: u8 = 3;
 /// The least number that is no literal.
 const LITERALS: u64 = 0x100;
 /// The least number that one load of an address doesn't leave.
@@ -53,7 +53,7 @@ pub(crate) fn home_of(homes: Homes, temp: u8) -> Option<u8>
     }
 }
 
-fn with_home(temp: u8, home: Option<u8>, homes: Homes) -> Homes
+pub(crate) fn with_home(temp: u8, home: Option<u8>, homes: Homes) -> Homes
     ensures { result ≡ with_home temp home homes }
 {
     match temp {
@@ -98,7 +98,7 @@ pub(crate) fn stands_in(home: Option<u8>, register: u8) -> bool
 }
 
 /// Whether another temporary stands in this one's register.
-fn is_shared(homes: Homes, temp: u8) -> bool
+pub(crate) fn is_shared(homes: Homes, temp: u8) -> bool
     requires { temp ≤ 5 }
     ensures { result ≡ is_shared homes temp }
 {

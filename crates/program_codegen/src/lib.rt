@@ -13,6 +13,7 @@ mod leaving;
 mod lines;
 mod operations;
 mod points;
+mod reached;
 mod spared;
 mod strings;
 mod tested;

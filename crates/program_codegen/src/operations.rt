@@ -28,7 +28,7 @@ fn push_line(lines: &mut Vec<Line>, line: Line) -> Result<(), WantOfMemory>
     Ok(())
 }
 
-fn push_two(lines: &mut Vec<Line>, first: Line, second: Line) -> Result<(), WantOfMemory>
+pub(crate) fn push_two(lines: &mut Vec<Line>, first: Line, second: Line) -> Result<(), WantOfMemory>
     ensures { OnOk result (lines.new.items ≡ lines.old.items ++ (first ∷ second ∷ [])) }
 {
     lines.extend_from_slice(&[first, second])?;

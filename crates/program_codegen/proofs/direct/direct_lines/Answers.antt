@@ -10,7 +10,7 @@ pub returns-in-None-clause-lines : goal.returns-in-None-clause-lines
 returns-in-None-clause-lines c =
     c.loop-i.invariant.pushed
     ∙ ap (option_map (λ (rest : List Line). c.loop-i.lines.items ++ rest))
-    (step_none c.args.site c.args.codes.now c.loop-i.homes c.args.program.now c.loop-i.i _ c.loop-i-test.true (sym c.is_computation.ensures ∙ c.if-not-is_computation.false) (when_none c.in_ok-end-2.field-0 _ _ c.in_default-2.is c.in_ok-end-2.ensures.lines) (sym c.in_ok-now.ensures.homes ∙ c.in-None.is))
+    (step_none c.args.site c.args.codes.now c.loop-i.homes c.args.program.now c.loop-i.i _ c.loop-i-test.true (sym c.goes_on.ensures ∙ c.if-not-goes_on.false) (when_none c.in_ok-end-2.field-0 _ _ c.in_default-2.is c.in_ok-end-2.ensures.lines) (sym c.in_ok-now.ensures.homes ∙ c.in-None.is))
 
 pub loop-i-preserved : goal.loop-i-preserved
 loop-i-preserved c =
@@ -19,7 +19,7 @@ loop-i-preserved c =
       words = words_behind c.args.site.sources c.args.program.now c.loop-i.i (Leave Breakpoint) c.loop-i-test.true c.loop-i.invariant.words;
       homes = some_homes c.in_ok-now.field-0 c.in-Some-3.now c.in-Some-3.is c.in_ok-now.ensures.are;
       pushed = c.loop-i.invariant.pushed
-          ∙ step_some c.args.site c.args.codes.now c.loop-i.homes c.args.program.now c.loop-i.i _ c.loop-i-test.true (sym c.is_computation.ensures ∙ c.if-not-is_computation.false) (when_none c.in_ok-end-2.field-0 _ _ c.in_default-2.is c.in_ok-end-2.ensures.lines) c.in-Some-3.now c.loop-i.lines.items _
+          ∙ step_some c.args.site c.args.codes.now c.loop-i.homes c.args.program.now c.loop-i.i _ c.loop-i-test.true (sym c.goes_on.ensures ∙ c.if-not-goes_on.false) (when_none c.in_ok-end-2.field-0 _ _ c.in_default-2.is c.in_ok-end-2.ensures.lines) c.in-Some-3.now c.loop-i.lines.items _
           (sym c.in_ok-now.ensures.homes ∙ c.in-Some-3.is) c.in_ok-now.ensures.lines;
       ranged = λ rest. c.loop-i.invariant.ranged (ranged_later c.args.program.now c.loop-i.i _ c.loop-i-test.true c.push_step.ensures.ranged rest);
     }
