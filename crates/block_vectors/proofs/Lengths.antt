@@ -115,11 +115,11 @@ row19 : longest (sources_of (op.MoveAddress sizes.Quad)) ((Compute 1 compute.Mov
 unfolding longest
 row19 = refl
 
-row20 : longest (sources_of (op.PushAddress sizes.Quad)) ((Compute 1 compute.Move sizes.Long (Register 14) (Const 0)) ∷ (Probe 1 4 false) ∷ (Read 0 1 4) ∷ (Compute 4 compute.Mul sizes.Long (Register 2) (Const 8)) ∷ (Compute 0 compute.Add sizes.Long (Temp 0) (Temp 4)) ∷ (Compute 3 compute.Move sizes.Long (Register 14) (Const 0)) ∷ (Probe 3 4 true) ∷ (Write 3 4 0) ∷ (Compute 2 compute.Move sizes.Long (Temp 0) (Const 0)) ∷ (Compute 6 compute.ShiftRight sizes.Long (Temp 2) (Const 31)) ∷ (Compute 7 compute.Equal sizes.Long (Temp 2) (Const 0)) ∷ (Compute 8 compute.Move sizes.Byte (Const 0) (Const 0)) ∷ (Codes 6 7 8 None) ∷ (Leave Next) ∷ []) ≡ 0x32
+row20 : longest (sources_of (op.PushAddress sizes.Quad)) ((Compute 1 compute.Move sizes.Long (Register 14) (Const 0)) ∷ (Probe 1 4 false) ∷ (Read 0 1 4) ∷ (Compute 4 compute.Mul sizes.Long (Register 2) (Const 8)) ∷ (Compute 0 compute.Add sizes.Long (Temp 0) (Temp 4)) ∷ (Compute 3 compute.Move sizes.Long (Register 14) (Const 0)) ∷ (Probe 3 4 true) ∷ (Write 3 4 0) ∷ (Compute 2 compute.Move sizes.Long (Temp 0) (Const 0)) ∷ (Compute 6 compute.ShiftRight sizes.Long (Temp 2) (Const 31)) ∷ (Compute 7 compute.Equal sizes.Long (Temp 2) (Const 0)) ∷ (Compute 8 compute.Move sizes.Byte (Const 0) (Const 0)) ∷ (Codes 6 7 8 None) ∷ (Leave Next) ∷ []) ≡ 0x31
 unfolding longest
 row20 = refl
 
-row21 : longest (sources_of op.PushLong) ((Compute 0 compute.Move sizes.Long (Register 14) (Const 0)) ∷ (Probe 0 4 false) ∷ (Read 1 0 4) ∷ (Compute 4 compute.Add sizes.Long (Register 2) (Register 2)) ∷ (Compute 4 compute.Add sizes.Long (Temp 4) (Temp 4)) ∷ (Compute 1 compute.Add sizes.Long (Temp 1) (Temp 4)) ∷ (Probe 1 4 false) ∷ (Read 0 1 4) ∷ (Compute 3 compute.Move sizes.Long (Register 14) (Const 0)) ∷ (Probe 3 4 true) ∷ (Write 3 4 0) ∷ (Compute 2 compute.Move sizes.Long (Temp 0) (Const 0)) ∷ (Compute 6 compute.ShiftRight sizes.Long (Temp 2) (Const 31)) ∷ (Compute 7 compute.Equal sizes.Long (Temp 2) (Const 0)) ∷ (Compute 8 compute.Move sizes.Byte (Const 0) (Const 0)) ∷ (Codes 6 7 8 None) ∷ (Leave Next) ∷ []) ≡ 0x42
+row21 : longest (sources_of op.PushLong) ((Compute 0 compute.Move sizes.Long (Register 14) (Const 0)) ∷ (Probe 0 4 false) ∷ (Read 1 0 4) ∷ (Compute 4 compute.Add sizes.Long (Register 2) (Register 2)) ∷ (Compute 4 compute.Add sizes.Long (Temp 4) (Temp 4)) ∷ (Compute 1 compute.Add sizes.Long (Temp 1) (Temp 4)) ∷ (Probe 1 4 false) ∷ (Read 0 1 4) ∷ (Compute 3 compute.Move sizes.Long (Register 14) (Const 0)) ∷ (Probe 3 4 true) ∷ (Write 3 4 0) ∷ (Compute 2 compute.Move sizes.Long (Temp 0) (Const 0)) ∷ (Compute 6 compute.ShiftRight sizes.Long (Temp 2) (Const 31)) ∷ (Compute 7 compute.Equal sizes.Long (Temp 2) (Const 0)) ∷ (Compute 8 compute.Move sizes.Byte (Const 0) (Const 0)) ∷ (Codes 6 7 8 None) ∷ (Leave Next) ∷ []) ≡ 0x40
 unfolding longest
 row21 = refl
 
