@@ -63,7 +63,7 @@ row6 : longest (sources_of (op.ThreeOperands Add Long)) ((Compute 0 compute.Move
 unfolding longest
 row6 = refl
 
-row7 : longest (sources_of (op.ThreeOperands Add Byte)) ((Compute 0 compute.Move sizes.Long (Register 1) (Const 0)) ∷ (Probe 0 4 false) ∷ (Read 2 0 4) ∷ (Compute 2 compute.Add sizes.Long (Temp 2) (Register 2)) ∷ (Probe 2 1 false) ∷ (Read 0 2 1) ∷ (Compute 1 compute.Add sizes.Long (Register 1) (Const 4)) ∷ (Probe 1 4 false) ∷ (Read 2 1 4) ∷ (Compute 2 compute.Add sizes.Long (Temp 2) (Register 2)) ∷ (Probe 2 1 false) ∷ (Read 1 2 1) ∷ (Compute 2 compute.Add sizes.Byte (Temp 0) (Temp 1)) ∷ (Compute 5 compute.Add sizes.Long (Register 1) (Const 8)) ∷ (Compute 5 compute.AndNot sizes.Long (Temp 5) (Const 255)) ∷ (Compute 5 compute.Or sizes.Long (Temp 5) (Temp 2)) ∷ (Commit 1 5) ∷ (Compute 6 compute.ShiftRight sizes.Byte (Temp 2) (Const 7)) ∷ (Compute 7 compute.Equal sizes.Byte (Temp 2) (Const 0)) ∷ (Compute 10 compute.SignExtend sizes.Byte (Temp 0) (Const 0)) ∷ (Compute 11 compute.SignExtend sizes.Byte (Temp 1) (Const 0)) ∷ (Compute 10 compute.Add sizes.Quad (Temp 10) (Temp 11)) ∷ (Compute 11 compute.SignExtend sizes.Byte (Temp 2) (Const 0)) ∷ (Compute 8 compute.Equal sizes.Quad (Temp 10) (Temp 11)) ∷ (Compute 8 compute.Xor sizes.Byte (Temp 8) (Const 1)) ∷ (Compute 9 compute.LessUnsigned sizes.Byte (Temp 2) (Temp 0)) ∷ (Codes 6 7 8 (Some 9)) ∷ (Leave Next) ∷ []) ≡ 0x4C
+row7 : longest (sources_of (op.ThreeOperands Add Byte)) ((Compute 0 compute.Move sizes.Long (Register 1) (Const 0)) ∷ (Probe 0 4 false) ∷ (Read 2 0 4) ∷ (Compute 2 compute.Add sizes.Long (Temp 2) (Register 2)) ∷ (Probe 2 1 false) ∷ (Read 0 2 1) ∷ (Compute 1 compute.Add sizes.Long (Register 1) (Const 4)) ∷ (Probe 1 4 false) ∷ (Read 2 1 4) ∷ (Compute 2 compute.Add sizes.Long (Temp 2) (Register 2)) ∷ (Probe 2 1 false) ∷ (Read 1 2 1) ∷ (Compute 2 compute.Add sizes.Byte (Temp 0) (Temp 1)) ∷ (Compute 5 compute.Add sizes.Long (Register 1) (Const 8)) ∷ (Compute 5 compute.AndNot sizes.Long (Temp 5) (Const 255)) ∷ (Compute 5 compute.Or sizes.Long (Temp 5) (Temp 2)) ∷ (Commit 1 5) ∷ (Compute 6 compute.ShiftRight sizes.Byte (Temp 2) (Const 7)) ∷ (Compute 7 compute.Equal sizes.Byte (Temp 2) (Const 0)) ∷ (Compute 10 compute.SignExtend sizes.Byte (Temp 0) (Const 0)) ∷ (Compute 11 compute.SignExtend sizes.Byte (Temp 1) (Const 0)) ∷ (Compute 10 compute.Add sizes.Quad (Temp 10) (Temp 11)) ∷ (Compute 11 compute.SignExtend sizes.Byte (Temp 2) (Const 0)) ∷ (Compute 8 compute.Equal sizes.Quad (Temp 10) (Temp 11)) ∷ (Compute 8 compute.Xor sizes.Byte (Temp 8) (Const 1)) ∷ (Compute 9 compute.LessUnsigned sizes.Byte (Temp 2) (Temp 0)) ∷ (Codes 6 7 8 (Some 9)) ∷ (Leave Next) ∷ []) ≡ 0x49
 unfolding longest
 row7 = refl
 
@@ -135,7 +135,7 @@ row24 : longest (sources_of (op.BranchOnBit (record { state = true; store = (Int
 unfolding longest
 row24 = refl
 
-row25 : longest (sources_of (op.BranchOnLowBit false)) ((Compute 0 compute.Move sizes.Long (Register 1) (Const 0)) ∷ (Probe 0 4 false) ∷ (Read 1 0 4) ∷ (Compute 4 compute.Add sizes.Long (Register 2) (Register 2)) ∷ (Compute 4 compute.Add sizes.Long (Temp 4) (Temp 4)) ∷ (Compute 1 compute.Add sizes.Long (Temp 1) (Temp 4)) ∷ (Probe 1 4 false) ∷ (Read 0 1 4) ∷ (Compute 0 compute.And sizes.Byte (Temp 0) (Const 1)) ∷ (Compute 0 compute.Xor sizes.Byte (Temp 0) (Const 1)) ∷ (Compute 5 compute.Add sizes.Long (Register 1) (Const 4)) ∷ (Commit 1 5) ∷ (Leave (Choice 0 520 516)) ∷ []) ≡ 0x30
+row25 : longest (sources_of (op.BranchOnLowBit false)) ((Compute 0 compute.Move sizes.Long (Register 1) (Const 0)) ∷ (Probe 0 4 false) ∷ (Read 1 0 4) ∷ (Compute 4 compute.Add sizes.Long (Register 2) (Register 2)) ∷ (Compute 4 compute.Add sizes.Long (Temp 4) (Temp 4)) ∷ (Compute 1 compute.Add sizes.Long (Temp 1) (Temp 4)) ∷ (Probe 1 4 false) ∷ (Read 0 1 4) ∷ (Compute 0 compute.And sizes.Byte (Temp 0) (Const 1)) ∷ (Compute 0 compute.Xor sizes.Byte (Temp 0) (Const 1)) ∷ (Compute 5 compute.Add sizes.Long (Register 1) (Const 4)) ∷ (Commit 1 5) ∷ (Leave (Choice 0 520 516)) ∷ []) ≡ 0x2F
 unfolding longest
 row25 = refl
 
@@ -159,7 +159,7 @@ row30 : longest (sources_of (op.AddOneBranch true)) ((Compute 0 compute.Move siz
 unfolding longest
 row30 = refl
 
-row31 : longest (sources_of (op.SubtractOneBranch true)) ((Compute 2 compute.Move sizes.Long (Register 1) (Const 0)) ∷ (Probe 2 4 false) ∷ (Read 3 2 4) ∷ (Compute 4 compute.Add sizes.Long (Register 2) (Register 2)) ∷ (Compute 4 compute.Add sizes.Long (Temp 4) (Temp 4)) ∷ (Compute 3 compute.Add sizes.Long (Temp 3) (Temp 4)) ∷ (Probe 3 4 true) ∷ (Read 2 3 4) ∷ (Compute 2 compute.Sub sizes.Long (Temp 2) (Const 1)) ∷ (Write 3 4 2) ∷ (Compute 3 compute.Equal sizes.Long (Temp 2) (Const 2147483647)) ∷ (Compute 0 compute.Less sizes.Long (Temp 2) (Const 0)) ∷ (Compute 0 compute.Xor sizes.Byte (Temp 0) (Const 1)) ∷ (Compute 5 compute.Add sizes.Long (Register 1) (Const 4)) ∷ (Commit 1 5) ∷ (Compute 6 compute.ShiftRight sizes.Long (Temp 2) (Const 31)) ∷ (Compute 7 compute.Equal sizes.Long (Temp 2) (Const 0)) ∷ (Codes 6 7 3 None) ∷ (Leave (Choice 0 520 516)) ∷ []) ≡ 0x5B
+row31 : longest (sources_of (op.SubtractOneBranch true)) ((Compute 2 compute.Move sizes.Long (Register 1) (Const 0)) ∷ (Probe 2 4 false) ∷ (Read 3 2 4) ∷ (Compute 4 compute.Add sizes.Long (Register 2) (Register 2)) ∷ (Compute 4 compute.Add sizes.Long (Temp 4) (Temp 4)) ∷ (Compute 3 compute.Add sizes.Long (Temp 3) (Temp 4)) ∷ (Probe 3 4 true) ∷ (Read 2 3 4) ∷ (Compute 2 compute.Sub sizes.Long (Temp 2) (Const 1)) ∷ (Write 3 4 2) ∷ (Compute 3 compute.Equal sizes.Long (Temp 2) (Const 2147483647)) ∷ (Compute 0 compute.Less sizes.Long (Temp 2) (Const 0)) ∷ (Compute 0 compute.Xor sizes.Byte (Temp 0) (Const 1)) ∷ (Compute 5 compute.Add sizes.Long (Register 1) (Const 4)) ∷ (Commit 1 5) ∷ (Compute 6 compute.ShiftRight sizes.Long (Temp 2) (Const 31)) ∷ (Compute 7 compute.Equal sizes.Long (Temp 2) (Const 0)) ∷ (Codes 6 7 3 None) ∷ (Leave (Choice 0 520 516)) ∷ []) ≡ 0x58
 unfolding longest
 row31 = refl
 
@@ -183,7 +183,7 @@ row36 : longest (sources_of op.BitSetPsw) ((Compute 0 compute.Move sizes.Long (R
 unfolding longest
 row36 = refl
 
-row37 : longest (sources_of op.MovePsl) ((Compute 2 compute.Move sizes.Long (Register 1) (Const 0)) ∷ (Probe 2 4 false) ∷ (Read 3 2 4) ∷ (Compute 4 compute.Add sizes.Long (Register 2) (Register 2)) ∷ (Compute 4 compute.Add sizes.Long (Temp 4) (Temp 4)) ∷ (Compute 3 compute.Add sizes.Long (Temp 3) (Temp 4)) ∷ (Compute 2 compute.Move sizes.Byte (Flag 7) (Const 0)) ∷ (Compute 2 compute.Add sizes.Byte (Temp 2) (Temp 2)) ∷ (Compute 2 compute.Or sizes.Byte (Temp 2) (Flag 6)) ∷ (Compute 2 compute.Add sizes.Byte (Temp 2) (Temp 2)) ∷ (Compute 2 compute.Or sizes.Byte (Temp 2) (Flag 5)) ∷ (Compute 2 compute.Add sizes.Byte (Temp 2) (Temp 2)) ∷ (Compute 2 compute.Or sizes.Byte (Temp 2) (Flag 4)) ∷ (Compute 2 compute.Add sizes.Byte (Temp 2) (Temp 2)) ∷ (Compute 2 compute.Or sizes.Byte (Temp 2) (Flag 0)) ∷ (Compute 2 compute.Add sizes.Byte (Temp 2) (Temp 2)) ∷ (Compute 2 compute.Or sizes.Byte (Temp 2) (Flag 1)) ∷ (Compute 2 compute.Add sizes.Byte (Temp 2) (Temp 2)) ∷ (Compute 2 compute.Or sizes.Byte (Temp 2) (Flag 2)) ∷ (Compute 2 compute.Add sizes.Byte (Temp 2) (Temp 2)) ∷ (Compute 2 compute.Or sizes.Byte (Temp 2) (Flag 3)) ∷ (Compute 2 compute.Or sizes.Long (Temp 2) (Const 62914560)) ∷ (Probe 3 4 true) ∷ (Write 3 4 2) ∷ (Compute 5 compute.Add sizes.Long (Register 1) (Const 4)) ∷ (Commit 1 5) ∷ (Leave Next) ∷ []) ≡ 0x5B
+row37 : longest (sources_of op.MovePsl) ((Compute 2 compute.Move sizes.Long (Register 1) (Const 0)) ∷ (Probe 2 4 false) ∷ (Read 3 2 4) ∷ (Compute 4 compute.Add sizes.Long (Register 2) (Register 2)) ∷ (Compute 4 compute.Add sizes.Long (Temp 4) (Temp 4)) ∷ (Compute 3 compute.Add sizes.Long (Temp 3) (Temp 4)) ∷ (Compute 2 compute.Move sizes.Byte (Flag 7) (Const 0)) ∷ (Compute 2 compute.Add sizes.Byte (Temp 2) (Temp 2)) ∷ (Compute 2 compute.Or sizes.Byte (Temp 2) (Flag 6)) ∷ (Compute 2 compute.Add sizes.Byte (Temp 2) (Temp 2)) ∷ (Compute 2 compute.Or sizes.Byte (Temp 2) (Flag 5)) ∷ (Compute 2 compute.Add sizes.Byte (Temp 2) (Temp 2)) ∷ (Compute 2 compute.Or sizes.Byte (Temp 2) (Flag 4)) ∷ (Compute 2 compute.Add sizes.Byte (Temp 2) (Temp 2)) ∷ (Compute 2 compute.Or sizes.Byte (Temp 2) (Flag 0)) ∷ (Compute 2 compute.Add sizes.Byte (Temp 2) (Temp 2)) ∷ (Compute 2 compute.Or sizes.Byte (Temp 2) (Flag 1)) ∷ (Compute 2 compute.Add sizes.Byte (Temp 2) (Temp 2)) ∷ (Compute 2 compute.Or sizes.Byte (Temp 2) (Flag 2)) ∷ (Compute 2 compute.Add sizes.Byte (Temp 2) (Temp 2)) ∷ (Compute 2 compute.Or sizes.Byte (Temp 2) (Flag 3)) ∷ (Compute 2 compute.Or sizes.Long (Temp 2) (Const 62914560)) ∷ (Probe 3 4 true) ∷ (Write 3 4 2) ∷ (Compute 5 compute.Add sizes.Long (Register 1) (Const 4)) ∷ (Commit 1 5) ∷ (Leave Next) ∷ []) ≡ 0x5A
 unfolding longest
 row37 = refl
 
@@ -203,7 +203,7 @@ row41 : longest (sources_of (op.Compare Long)) ((Compute 0 compute.Move sizes.Lo
 unfolding longest
 row41 = refl
 
-row42 : longest (sources_of (op.Test Word)) ((Compute 0 compute.Move sizes.Long (Register 1) (Const 0)) ∷ (Probe 0 4 false) ∷ (Read 1 0 4) ∷ (Compute 4 compute.Add sizes.Long (Register 2) (Register 2)) ∷ (Compute 1 compute.Add sizes.Long (Temp 1) (Temp 4)) ∷ (Probe 1 2 false) ∷ (Read 0 1 2) ∷ (Compute 2 compute.Move sizes.Word (Temp 0) (Const 0)) ∷ (Compute 5 compute.Add sizes.Long (Register 1) (Const 4)) ∷ (Commit 1 5) ∷ (Compute 6 compute.ShiftRight sizes.Word (Temp 2) (Const 15)) ∷ (Compute 7 compute.Equal sizes.Word (Temp 2) (Const 0)) ∷ (Compute 8 compute.Move sizes.Byte (Const 0) (Const 0)) ∷ (Compute 9 compute.Move sizes.Byte (Const 0) (Const 0)) ∷ (Codes 6 7 8 (Some 9)) ∷ (Leave Next) ∷ []) ≡ 0x29
+row42 : longest (sources_of (op.Test Word)) ((Compute 0 compute.Move sizes.Long (Register 1) (Const 0)) ∷ (Probe 0 4 false) ∷ (Read 1 0 4) ∷ (Compute 4 compute.Add sizes.Long (Register 2) (Register 2)) ∷ (Compute 1 compute.Add sizes.Long (Temp 1) (Temp 4)) ∷ (Probe 1 2 false) ∷ (Read 0 1 2) ∷ (Compute 2 compute.Move sizes.Word (Temp 0) (Const 0)) ∷ (Compute 5 compute.Add sizes.Long (Register 1) (Const 4)) ∷ (Commit 1 5) ∷ (Compute 6 compute.ShiftRight sizes.Word (Temp 2) (Const 15)) ∷ (Compute 7 compute.Equal sizes.Word (Temp 2) (Const 0)) ∷ (Compute 8 compute.Move sizes.Byte (Const 0) (Const 0)) ∷ (Compute 9 compute.Move sizes.Byte (Const 0) (Const 0)) ∷ (Codes 6 7 8 (Some 9)) ∷ (Leave Next) ∷ []) ≡ 0x28
 unfolding longest
 row42 = refl
 
@@ -211,7 +211,7 @@ row43 : longest (sources_of (op.BitTest Long)) ((Compute 0 compute.Move sizes.Lo
 unfolding longest
 row43 = refl
 
-row44 : longest (sources_of (op.Increment Long)) ((Compute 0 compute.Move sizes.Long (Register 1) (Const 0)) ∷ (Probe 0 4 false) ∷ (Read 3 0 4) ∷ (Compute 4 compute.Add sizes.Long (Register 2) (Register 2)) ∷ (Compute 4 compute.Add sizes.Long (Temp 4) (Temp 4)) ∷ (Compute 3 compute.Add sizes.Long (Temp 3) (Temp 4)) ∷ (Probe 3 4 true) ∷ (Read 0 3 4) ∷ (Compute 2 compute.Add sizes.Long (Temp 0) (Const 1)) ∷ (Write 3 4 2) ∷ (Compute 1 compute.Move sizes.Long (Const 1) (Const 0)) ∷ (Compute 5 compute.Add sizes.Long (Register 1) (Const 4)) ∷ (Commit 1 5) ∷ (Compute 6 compute.ShiftRight sizes.Long (Temp 2) (Const 31)) ∷ (Compute 7 compute.Equal sizes.Long (Temp 2) (Const 0)) ∷ (Compute 10 compute.SignExtend sizes.Long (Temp 0) (Const 0)) ∷ (Compute 11 compute.SignExtend sizes.Long (Temp 1) (Const 0)) ∷ (Compute 10 compute.Add sizes.Quad (Temp 10) (Temp 11)) ∷ (Compute 11 compute.SignExtend sizes.Long (Temp 2) (Const 0)) ∷ (Compute 8 compute.Equal sizes.Quad (Temp 10) (Temp 11)) ∷ (Compute 8 compute.Xor sizes.Byte (Temp 8) (Const 1)) ∷ (Compute 9 compute.LessUnsigned sizes.Long (Temp 2) (Temp 0)) ∷ (Codes 6 7 8 (Some 9)) ∷ (Leave Next) ∷ []) ≡ 0x54
+row44 : longest (sources_of (op.Increment Long)) ((Compute 0 compute.Move sizes.Long (Register 1) (Const 0)) ∷ (Probe 0 4 false) ∷ (Read 3 0 4) ∷ (Compute 4 compute.Add sizes.Long (Register 2) (Register 2)) ∷ (Compute 4 compute.Add sizes.Long (Temp 4) (Temp 4)) ∷ (Compute 3 compute.Add sizes.Long (Temp 3) (Temp 4)) ∷ (Probe 3 4 true) ∷ (Read 0 3 4) ∷ (Compute 2 compute.Add sizes.Long (Temp 0) (Const 1)) ∷ (Write 3 4 2) ∷ (Compute 1 compute.Move sizes.Long (Const 1) (Const 0)) ∷ (Compute 5 compute.Add sizes.Long (Register 1) (Const 4)) ∷ (Commit 1 5) ∷ (Compute 6 compute.ShiftRight sizes.Long (Temp 2) (Const 31)) ∷ (Compute 7 compute.Equal sizes.Long (Temp 2) (Const 0)) ∷ (Compute 10 compute.SignExtend sizes.Long (Temp 0) (Const 0)) ∷ (Compute 11 compute.SignExtend sizes.Long (Temp 1) (Const 0)) ∷ (Compute 10 compute.Add sizes.Quad (Temp 10) (Temp 11)) ∷ (Compute 11 compute.SignExtend sizes.Long (Temp 2) (Const 0)) ∷ (Compute 8 compute.Equal sizes.Quad (Temp 10) (Temp 11)) ∷ (Compute 8 compute.Xor sizes.Byte (Temp 8) (Const 1)) ∷ (Compute 9 compute.LessUnsigned sizes.Long (Temp 2) (Temp 0)) ∷ (Codes 6 7 8 (Some 9)) ∷ (Leave Next) ∷ []) ≡ 0x52
 unfolding longest
 row44 = refl
 

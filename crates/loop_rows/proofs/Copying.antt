@@ -1,8 +1,8 @@
 -- The block that copies a string follows its tree.
-use Rattle.std.proofs.Common.{◌≡◌, ℕ, zero, suc, ◌+◌, ◌%◌, ◌^◌, ◌<◌, ◌≤◌, refl, sym, ap, ◌∙◌, subst, arith, add-zero, List, [], ◌∷◌, length, Option, Some, None, true, false, lit<, lit≤}
+use Rattle.std.proofs.Common.{◌≡◌, ℕ, suc, ◌+◌, ◌%◌, ◌^◌, ◌<◌, refl, sym, ap, ◌∙◌, subst, arith, add-zero, List, [], ◌∷◌, length, Some, true, false, lit<, lit≤}
 use Rattle.std.specs.Prelude.{nat_le, slice_get, slice_index}
 use Rattle.std.proofs.lemmas.Bool.Decides.{nat_tests}
-use Rattle.vax_form.specs.State.{with_pc, register}
+use Rattle.vax_form.specs.State.{with_pc}
 use Rattle.vax_form.specs.Tree.{Tree, Check}
 use Rattle.vax_form.specs.declared.pages.Pages.{Pages}
 use Rattle.vax_form.specs.declared.state.Flags.{Flags}
@@ -20,7 +20,7 @@ use Rattle.block_law.proofs.Laid.{has_each}
 use Rattle.block_law.specs.Blocks.{is_exit_word}
 use Rattle.block_law.specs.Follows.{Follows, LeadsTo}
 use Rattle.block_law.specs.Placements.{Placement, InForm}
-use Rattle.block_law.specs.Rounds.{block_steps, Round, new_round}
+use Rattle.block_law.specs.Rounds.{block_steps, new_round}
 use Rattle.block_law.specs.Translations.{Code, placed, fetch_of}
 use Rattle.block_law.proofs.Rules.{Always, IsAt, goes}
 use Rattle.loop_rows.specs.Copying.{copied, copy_tree, copy_meaning, copy_permit, copy_value, copy_words, Copies}

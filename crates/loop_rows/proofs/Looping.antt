@@ -1,6 +1,6 @@
 -- The loop that copies a string follows its tree, wherever it stands in a block.
-use Rattle.std.proofs.Common.{◌≡◌, ℕ, zero, suc, ◌+◌, ◌-◌, ◌*◌, ◌/◌, ◌%◌, ◌^◌, ◌<◌, ◌≤◌, refl, sym, ap, ◌∙◌, subst, arith, add-zero, List, [], ◌∷◌, length, All, Option, Some, None, Bool, true, false, inl, inr, lit<, lit≤}
-use Rattle.std.specs.Prelude.{◌==◌, ◌&&◌, ◌||◌, ◌⊎◌, not, nat_lt, nat_le, pos, negsuc, slice_get, slice_set, slice_index}
+use Rattle.std.proofs.Common.{◌≡◌, ℕ, zero, suc, ◌+◌, ◌-◌, ◌*◌, ◌/◌, ◌%◌, ◌^◌, ◌<◌, ◌≤◌, refl, sym, ap, ◌∙◌, subst, arith, add-zero, List, [], ◌∷◌, All, Option, Some, None, Bool, true, false, inl, inr, lit<, lit≤}
+use Rattle.std.specs.Prelude.{◌==◌, ◌&&◌, ◌||◌, ◌⊎◌, not, nat_lt, nat_le, pos, negsuc, slice_get, slice_set}
 use Rattle.std.proofs.lemmas.Bool.Decides.{nat_tests}
 use Rattle.std.proofs.lemmas.List.Elements.{All-cons, All-nil}
 use Rattle.vt_words.specs.Quad.{sign_extended, ext_low, field_of, with_field_of, two as c2, four as c4, one as c1}
@@ -12,7 +12,7 @@ use Rattle.vax_form.specs.State.{with_core, with_pc, register}
 use Rattle.vax_form.specs.Tree.{Tree, Check, Ask, Ends, Finish}
 use Rattle.vax_form.specs.declared.pages.Pages.{Pages}
 use Rattle.vax_form.specs.declared.state.Flags.{Flags}
-use Rattle.vax_form.specs.declared.state.RefKind.TheVariants.{Read, Write}
+use Rattle.vax_form.specs.declared.state.RefKind.TheVariants.{Write}
 use Rattle.vax_form.specs.declared.state.VaxState.{VaxState}
 use Rattle.alpha_encode.specs.declared.instr.AlphaInstr.{AlphaInstr}
 use Rattle.alpha_encode.specs.declared.instr.AlphaInstr.TheVariants.{Branch, Operate, Pal}
@@ -22,7 +22,7 @@ use Rattle.alpha_encode.specs.declared.instr.Second.TheVariants.{Register, Liter
 use Rattle.alpha_meaning.specs.State.{Regs, put, at_place}
 use Rattle.alpha_meaning.specs.Act.{Goes, act, target_of}
 use Rattle.alpha_meaning.specs.Loops.{effect}
-use Rattle.alpha_meaning.specs.Pieces.{Kinds, HasAt, Only, Plain}
+use Rattle.alpha_meaning.specs.Pieces.{HasAt, Only, Plain}
 use Rattle.byte_sequences.specs.Instructions.{is_scratch, is_scratch_or}
 use Rattle.byte_sequences.specs.Plans.{read_plan, write_plan}
 use Rattle.byte_sequences.specs.Promises.{Holds, Keeps}
@@ -30,17 +30,14 @@ use Rattle.byte_sequences.specs.Words.{read_code, write_code}
 use Rattle.byte_sequences.proofs.ReadLaws.{reads}
 use Rattle.byte_sequences.proofs.WriteLaws.{writes}
 use Rattle.exception_records.specs.Codes.{all_ready}
-use Rattle.exception_records.specs.Points.{point_at}
 use Rattle.exception_records.specs.Shown.{Shows, registers_shown, psw_shown, still_held}
 use Rattle.exception_records.specs.declared.points.Point.{Point}
-use Rattle.block_law.proofs.Laid.{has_each}
-use Rattle.block_law.specs.Blocks.{is_exit_word}
 use Rattle.block_law.specs.Follows.{Follows, LeadsTo, probe_count}
 use Rattle.block_law.specs.Laws.{shows_psw}
 use Rattle.block_law.specs.Placements.{Placement, InForm, state_behind}
 use Rattle.block_law.specs.Rounds.{block_steps, Round, new_round}
 use Rattle.block_law.specs.Tidy.{is_kept}
-use Rattle.block_law.specs.Translations.{Code, placed, fetch_of}
+use Rattle.block_law.specs.Translations.{Code, placed}
 use Rattle.block_law.proofs.Blocks.{Begins, piece_terms}
 use Rattle.block_law.proofs.Kept.{same_status}
 use Rattle.block_law.proofs.Rounds.{fits_spare, fits_anew}

@@ -1,14 +1,13 @@
 -- The block that reads the length of a string from memory, and then copies the string, follows its tree.
-use Rattle.std.proofs.Common.{◌≡◌, ℕ, zero, suc, ◌+◌, ◌-◌, ◌*◌, ◌%◌, ◌^◌, ◌<◌, ◌≤◌, refl, sym, ap, ◌∙◌, subst, arith, add-zero, zero-add, List, [], ◌∷◌, ◌++◌, length, Option, Some, None, Bool, true, false, lit<, lit≤}
+use Rattle.std.proofs.Common.{◌≡◌, ℕ, zero, suc, ◌+◌, ◌-◌, ◌*◌, ◌%◌, ◌^◌, ◌<◌, refl, sym, ap, ◌∙◌, subst, arith, add-zero, zero-add, List, [], ◌∷◌, ◌++◌, length, Option, Some, None, Bool, true, false, lit<, lit≤}
 use Rattle.std.specs.Prelude.{nat_le, slice_get, slice_index, if◌then◌else◌}
-use Rattle.std.proofs.Math.Nat.{mod-eq_of_lt}
 use Rattle.std.proofs.lemmas.Bool.Decides.{nat_tests}
 use Rattle.vt_words.specs.Quad.{sign_extended, two as c2}
 use Rattle.vt_words.proofs.Longwords.{same_extended}
 use Rattle.vax_form.specs.PageTable.{IsPageTable}
 use Rattle.vax_form.specs.Pages.{first_bad}
 use Rattle.vax_form.specs.Parts.{parts}
-use Rattle.vax_form.specs.State.{with_pc, register}
+use Rattle.vax_form.specs.State.{with_pc}
 use Rattle.vax_form.specs.Tree.{Tree, Check, Ask}
 use Rattle.vax_form.specs.declared.pages.Pages.{Pages}
 use Rattle.vax_form.specs.declared.state.Flags.{Flags}
@@ -40,7 +39,7 @@ use Rattle.block_law.proofs.Rules.{Always, IsAt, goes, probes, runs}
 use Rattle.branch_layout.proofs.Filling.{has_by}
 use Rattle.program_codegen.specs.Accesses.{by_loads}
 use Rattle.program_codegen.proofs.Operands.{may_read, usable}
-use Rattle.loop_rows.specs.Copying.{copied, copy_permit, loop_words, string_tree}
+use Rattle.loop_rows.specs.Copying.{copied, copy_permit, loop_words}
 use Rattle.loop_rows.specs.Measuring.{length_words, measured_meaning, measured_tree, measured_value, measured_words, word_point, word_read, Measures}
 use Rattle.loop_rows.proofs.Copying.{Told}
 use Rattle.loop_rows.proofs.Looping.{Here, address_into, copies_string, free_put, free_scratch, is_free}
@@ -122,7 +121,7 @@ module _ (pages : Pages) (table : IsPageTable pages) (after : ℕ) (code : Code)
         runs p None 21 (first + 3) 9 (Holds f 21 2) by_loads strings None f (read_plan (parts (f 22) 2)) (word_read length_at strings)
         (omega arith) (omega arith) (λ q gt le. let there : q ≡ first + (q - first) = omega arith in ap p.stops there ∙ front.inside (q - first) (omega arith) (omega arith))
         (subst (λ a. Begins by_loads p.kinds strings None (read_plan (parts a 2)) (word_read length_at strings) None) (sym in_22) begins)
-        (λ n. reads 22 2 21 c2 (record { low = lit≤ tt; high = lit≤ tt }) (record { low = lit≤ tt; high = lit≤ tt }) p.fetch (piece_terms p by_loads) (first + 3) f (omega arith)
+        (λ n. reads 22 2 21 c2 (record { high = lit≤ tt }) (record { high = lit≤ tt }) p.fetch (piece_terms p by_loads) (first + 3) f (omega arith)
         (subst (λ a. MayRead loaded_bytes (piece_terms p by_loads) a 2) (sym in_22) (may_read p table false length_at 2 c2 usage)) read_has n)
         (λ count g h. subst (λ pc. Always p None 21 (at_place g pc) (strings count)) (sym end)
         (copies_string (measured_tree after) pages after code first (first + 12) thread state held address start here form shows None count g h.fits (word_fits count (g 21) h.holds h.fits) (word_is count (g 21) h.holds h.fits)

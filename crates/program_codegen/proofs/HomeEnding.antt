@@ -3,7 +3,6 @@ use Rattle.std.proofs.Common.{◌≡◌, ℕ, ◌+◌, ◌/◌, ◌%◌, ◌^◌
 use Rattle.std.specs.Prelude.{◌==◌, not, is_none, option_and_then, slice_set, unwrap_or, if◌then◌else◌}
 use Rattle.std.specs.List.{list_all}
 use Rattle.std.proofs.lemmas.Bool.Decides.{nat_tests}
-use Rattle.std.proofs.lemmas.Bool.{ltb-true}
 use Rattle.vt_words.specs.Quad.{left, sign_extended}
 use Rattle.vt_words.proofs.Longwords.{extended_again, extended_low, same_extended}
 use Rattle.vax_form.specs.State.{with_core, with_pc, with_register}
@@ -43,7 +42,7 @@ use Rattle.program_codegen.specs.declared.direct.Raised.{Raised}
 use Rattle.block_law.specs.Tidy.{is_kept}
 use Rattle.program_codegen.specs.declared.homes.Homes.{Homes}
 use Rattle.program_codegen.specs.declared.points.Site.{Site}
-use Rattle.program_codegen.specs.Homes.{IsHome, are_short_rules, commit_stays, commit_words, end_lines, exit_stays, home_at, home_of, is_operand, is_short_rule, may_end, moved_words, none_raised, raised_at, commits_result, end_words, goes_alone, made_commit, spared, spared_words, waiting_words}
+use Rattle.program_codegen.specs.Homes.{IsHome, are_short_rules, commit_stays, is_left_alone, commit_words, end_lines, exit_stays, home_at, home_of, is_operand, is_short_rule, may_end, moved_words, none_raised, raised_at, commits_result, end_words, goes_alone, made_commit, spared, spared_words, waiting_words}
 use Rattle.program_codegen.specs.Programs.{IsExit}
 use Rattle.program_codegen.specs.Words.{departing, plain, trap_lines}
 use Rattle.program_codegen.proofs.Coded.{Coded, carry_by, coded_by, fine_operates, registers_same, signs_by, sources_parts}
@@ -249,15 +248,16 @@ module _ (p : Placement) (site : Site) (codes : List AlphaInstr) (setting : Sett
       place : Option ℕ → ℕ
       place home = unwrap_or home (21 + commit.1)
 
-      few : commit.1 < 3
-      few = ltb-true commit.1 3 stays
+      low : (temp : ℕ) → is_left_alone temp ≡ true → temp < 6
+      low temp e = grind (arith, nat_tests, e)
+
+      apart : (temp : ℕ) → is_left_alone temp ≡ true → ((temp == 3) ≡ false) × ((temp == 4) ≡ false)
+      apart temp e = (grind (arith, nat_tests, e), grind (arith, nat_tests, e))
 
       is_low : (o : Option ℕ) → home_of homes commit.1 ≡ o → effects words regs (unwrap_or o (21 + commit.1)) % 2 ^ 32 ≡ standing.temps commit.1 % 2 ^ 32
       is_low None none =
-          let lt = few in
-          let three : (commit.1 == 3) ≡ false = grind (arith, nat_tests) in
-          let four : (commit.1 == 4) ≡ false = grind (arith, nat_tests) in
-          ap (λ n. n % 2 ^ 32) (held_value (held (hidden homes known) commit.1) (standing.temps commit.1) (effects words regs (21 + commit.1)) (ap is_something (held_own homes known commit.1 none) ∙ is.1) (c.temps commit.1 (omega arith) three four)).0
+          let other = apart commit.1 stays in
+          ap (λ n. n % 2 ^ 32) (held_value (held (hidden homes known) commit.1) (standing.temps commit.1) (effects words regs (21 + commit.1)) (ap is_something (held_own homes known commit.1 none) ∙ is.1) (c.temps commit.1 (low commit.1 stays) other.0 other.1)).0
       is_low (Some r) e =
           let v = d.values commit.1 r e in
           let stay = effects_only words (may_be_written site.sources) regs regs only (λ n out. refl) r (home_stays site.sources r (home_is homes d.are commit.1 r e)) in

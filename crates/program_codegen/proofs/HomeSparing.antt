@@ -4,7 +4,7 @@ use Rattle.std.specs.Prelude.{◌==◌, ◌||◌, not, bit_or, All, option_map, 
 use Rattle.std.specs.List.{list_all}
 use Rattle.std.specs.Int.Bits.{or_zero_l}
 use Rattle.std.proofs.lemmas.Bool.Decides.{nat_tests}
-use Rattle.std.proofs.lemmas.Bool.{and_parts, and_from, ltb-true, not-true, or_from}
+use Rattle.std.proofs.lemmas.Bool.{and_parts, and_from, not-true, or_from}
 use Rattle.std.proofs.lemmas.List.Elements.{All-append, All-cons, All-head, All-nil, All-tail}
 use Rattle.std.proofs.lemmas.List.Folds.{list_any-append}
 use Rattle.std.proofs.lemmas.Option.{same_Some}
@@ -23,7 +23,7 @@ use Rattle.alpha_meaning.proofs.Registers.{put_other}
 use Rattle.block_law.specs.Tidy.{register_written, writes_register}
 use Rattle.micro_ops.specs.declared.program.Exit.{Exit}
 use Rattle.program_codegen.specs.declared.homes.Homes.{Homes}
-use Rattle.program_codegen.specs.Homes.{AreHomes, commit_stays, commit_words, commits_result, copies_result, end_words, goes_alone, home_of, is_choice, is_result, into, leaves_result, made_commit, may_spare, second_reads, spared, spared_word, spared_words, stands_in, waiting_words, word_reads}
+use Rattle.program_codegen.specs.Homes.{AreHomes, commit_stays, is_left_alone, commit_words, commits_result, copies_result, end_words, goes_alone, home_of, is_choice, is_result, into, leaves_result, made_commit, may_spare, second_reads, spared, spared_word, spared_words, stands_in, waiting_words, word_reads}
 use Rattle.program_codegen.proofs.HomeCodes.{held_unread}
 use Rattle.program_codegen.proofs.Fronts.{free_spares}
 use Rattle.program_codegen.proofs.HomeHolding.{home_is}
@@ -301,7 +301,10 @@ end_row homes are waits commit exit words stays numbered encodable operate = by 
     commit_encodable (Some commit) stays is = All-cons IsEncodable (Operate row.Addl (unwrap_or (home_of homes commit.1) (21 + commit.1)) (Literal 0) commit.0) [] (place (home_of homes commit.1) refl, lit< tt, omega arith) (All-nil IsEncodable)
       where
         place : (o : Option ℕ) → home_of homes commit.1 ≡ o → unwrap_or o (21 + commit.1) < 32
-        place None e = let lt = ltb-true commit.1 3 stays in omega arith
+        place None e = low commit.1 stays
+          where
+            low : (temp : ℕ) → is_left_alone temp ≡ true → 21 + temp < 32
+            low temp e = grind (arith, nat_tests, e)
         place (Some r) e = let lt = (home_is homes are commit.1 r e).0 in omega arith
 
     apart : (n r : ℕ) → n < 15 → 16 ≤ r → (n == r) ≡ false

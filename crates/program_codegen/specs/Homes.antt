@@ -374,10 +374,13 @@ exit_stays homes (Fixed address) = true
 exit_stays homes (Choice when taken other) = is_none (home_of homes when)
 exit_stays homes exit = false
 
--- a register is written from a temporary that the words for the codes leave as it is
+-- a register is written from a temporary that the words for the codes leave as it is: they change temporaries 3 and 4
+abbrev pub is_left_alone : (temp : ℕ) → Bool
+is_left_alone temp = nat_lt temp 3 || temp == 5
+
 abbrev pub commit_stays : Option (ℕ × ℕ) → Bool
 commit_stays None = true
-commit_stays (Some commit) = nat_lt commit.1 3
+commit_stays (Some commit) = is_left_alone commit.1
 
 abbrev pub commit_words : Homes → Option (ℕ × ℕ) → List AlphaInstr
 commit_words homes None = []

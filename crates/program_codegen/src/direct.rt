@@ -24,8 +24,10 @@ const RAISED: u8 = 32;
 const LONGWORD_SIGN: u8 = 31;
 
 const QUADWORD_SIGN: u8 = 63;
-/// The words for the codes leave the temporaries below this one.
+/// The words for the codes leave the temporaries below the first of these, and the last one.
 const LEFT_ALONE: u8 = 3;
+
+const LAST_LEFT_ALONE: u8 = 5;
 
 /// The registers into which two longwords are raised.
 const FIRST_RAISED: u8 = TEMPORARIES + 3;
@@ -377,7 +379,7 @@ fn commit_stays(commit: Commit) -> bool
     ensures { result ≡ commit_stays commit }
 {
     match commit {
-        Some((_register, from)) => from < LEFT_ALONE,
+        Some((_register, from)) => from < LEFT_ALONE || from == LAST_LEFT_ALONE,
         None => true,
     }
 }
