@@ -27,7 +27,7 @@ use Rattle.program_codegen.specs.declared.homes.Homes.{Homes}
 use Rattle.program_codegen.specs.declared.lines.Line.{Line}
 use Rattle.program_codegen.specs.declared.points.Site.{Site}
 use Rattle.program_codegen.specs.Blocks.{block_lines, chosen_lines}
-use Rattle.program_codegen.specs.Homes.{choice_lines, direct_end, direct_lines, direct_step, end_at, end_words, home_of, needed_words, next_exit, no_homes, tested_at, tested_exit, reach, waiting_words}
+use Rattle.program_codegen.specs.Homes.{choice_lines, direct_end, direct_lines, direct_step, end_at, end_words, home_of, needed_words, next_exit, no_homes, tested_at, tested_exit, reach, all_waiting, waiting_words, tested_words}
 use Rattle.program_codegen.specs.Programs.{AllHaveWords, KeepsTogether, LeavesReady, ReadsReady}
 use Rattle.program_codegen.specs.Promises.{BeginsBy}
 use Rattle.program_codegen.specs.Words.{block_of, departing, plain, program_lines, trap_lines}
@@ -38,6 +38,7 @@ use Rattle.program_codegen.proofs.HomeFollowing.{direct_follows, direct_some, en
 use Rattle.program_codegen.proofs.HomeSomes.{chained, first_is, mapped}
 use Rattle.program_codegen.proofs.HomeTesting.{tested}
 use Rattle.program_codegen.proofs.HomeShaping.{direct_shape}
+use Rattle.program_codegen.proofs.HomeSparing.{nothing_waits}
 use Rattle.program_codegen.proofs.Holding.{Holds, LeavingFollows, Setting, ends, found, tree}
 use Rattle.program_codegen.proofs.Shaping.{program_shape}
 use Rattle.program_codegen.proofs.Walk.{Within}
@@ -51,7 +52,7 @@ module _ (site : Site) (codes : List AlphaInstr) where
       let x = ended site codes homes c.found.0 c.found.1 lines c.onward in
       let rest = trap_lines site c.found.1 ++ departing site c.found.1 in
       subst (Starts site) x.whole
-      (before site (map plain (end_words homes.waiting homes c.found.0 c.found.1 x.words)) (trap_lines site c.found.1 ++ departing site c.found.1) (row site (end_words homes.waiting homes c.found.0 c.found.1 x.words))
+      (before site (map plain (end_words homes c.found.0 c.found.1 x.words)) (trap_lines site c.found.1 ++ departing site c.found.1) (row site (end_words homes c.found.0 c.found.1 x.words))
       (before site (trap_lines site c.found.1) (departing site c.found.1) (trap site c.found.1) (depart site c.found.1)))
 
   reach_starts : (operation : Micro) (program : List Micro) (homes : Homes) (lines : List Line) → ((homes' : Homes) (rest : List Line) → direct_lines site codes homes' program ≡ Some rest → Starts site rest)
@@ -59,8 +60,8 @@ module _ (site : Site) (codes : List AlphaInstr) where
   reach_starts operation program homes lines later e =
       let r = reaching site codes homes operation program lines e in
       subst (Starts site) r.whole
-      (before site (map plain (waiting_words homes.waiting) ++ r.step.1) r.rest
-      (before site (map plain (waiting_words homes.waiting)) r.step.1 (row site (waiting_words homes.waiting)) (reached_starts site homes operation r.step r.is)) (later r.step.0 r.rest r.onward))
+      (before site (map plain (all_waiting homes) ++ r.step.1) r.rest
+      (before site (map plain (all_waiting homes)) r.step.1 (row site (all_waiting homes)) (reached_starts site homes operation r.step r.is)) (later r.step.0 r.rest r.onward))
 
   direct_starts : (program : List Micro) (homes : Homes) (lines : List Line) → direct_lines site codes homes program ≡ Some lines → Starts site lines
   direct_starts [] homes lines e = absurd (cc e)
@@ -71,7 +72,7 @@ module _ (site : Site) (codes : List AlphaInstr) where
       by onward (inl tests) =
           let c = chained Exit (List Line) (tested_exit site codes homes to op size a b) (next_exit program) lines tests in
           let s = tested site codes homes to op size a b c.found lines c.onward in
-          subst (Starts site) s.whole (before site (map plain (needed_words to s.test.1 homes.waiting)) (choice_lines s.test s.chosen s.other) (row site (needed_words to s.test.1 homes.waiting)) refl)
+          subst (Starts site) s.whole (before site (map plain (tested_words to s.test.1 homes)) (choice_lines s.test s.chosen s.other) (row site (tested_words to s.test.1 homes)) refl)
       by onward (inr x) =
           let c = chained (Homes × List AlphaInstr) (List Line) (λ (step : Homes × List AlphaInstr). option_map (λ (lines : List Line). map plain step.1 ++ lines) (direct_lines site codes step.0 program)) (direct_step site.sources homes to op size a b program) lines x.1 in
           let m = mapped (List Line) (List Line) (λ (lines : List Line). map plain c.found.1 ++ lines) (direct_lines site codes c.found.0 program) lines c.onward in
@@ -113,7 +114,7 @@ module _ (site : Site) (codes : List AlphaInstr) (after_fits : site.after < 2 ^ 
       by : (o : Option (List Line)) → direct_lines site codes no_homes program ≡ o → Shape site false codes (addresses_of site.after program) (program_words site.sources program + 59) (unwrap_or o (program_lines site codes program))
       by None e = program_shape site codes after_fits encodable few only together program at_start refl ended words (λ e. (refl, refl))
       by (Some lines) e =
-          let shape = direct_shape site codes after_fits encodable few only program no_homes (tt, tt, tt) (record { encodable = All-nil IsEncodable; silent = refl; operate = refl }) lines false refl at_start e words refl ended in
+          let shape = direct_shape site codes after_fits encodable few only program no_homes (tt, tt, tt) (record { before = nothing_waits; last = nothing_waits }) lines false refl at_start e words refl ended in
           let short = shape.short in
           record { each = shape.each; kept = shape.kept; goes = shape.goes; writes = shape.writes; short = omega arith }
 
@@ -131,7 +132,7 @@ module _ (p : Placement) (site : Site) (codes : List AlphaInstr) (setting : Sett
           → Always p None (length (unwrap_or o (program_lines site codes program))) (at_place regs pc) (tree (ends p) (course_of program (found p site) standing))
       by None e w = follows p site codes setting leaves program at_start standing regs pc w sized words reads ready refl ended h range agree
       by (Some lines) e w =
-          direct_follows p site codes setting program no_homes lines at_start standing regs pc e w words reads refl ended refl
+          direct_follows p site codes setting program no_homes lines at_start standing regs pc e w words reads refl ended (refl, refl)
           (record { holds = h; are = (tt, tt, tt); values = λ temp r home. absurd (none temp r home) }) sized (range, agree)
         where
           none : (temp r : ℕ) → home_of no_homes temp ≡ Some r → ⊥

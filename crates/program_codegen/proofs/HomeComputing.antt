@@ -180,7 +180,7 @@ joined_long homes found Quad a b to word e = absurd (cc e)
 -- a constant's word
 pub record Literally (to : ℕ) (op : MicroOp) (size : Size) (a : Arg) (word : AlphaInstr) : Type 0 where
   pub few : nat_lt to 3 ≡ true
-  pub copies : is_copying op size ≡ true
+  pub copies : is_moved op ≡ true
   pub value : ℕ
   pub constant : a ≡ arguments.Const value
   pub small : value < 256
@@ -188,13 +188,13 @@ pub record Literally (to : ℕ) (op : MicroOp) (size : Size) (a : Arg) (word : A
 
 pub made_word : (homes : Homes) (to : ℕ) (op : MicroOp) (size : Size) (a b : Arg) (word : AlphaInstr) → made homes to op size a b ≡ Some word
     → Literally to op size a word ⊎ ((to ≡ 2) × (made_size op size ≡ Long) × Joined homes (long_operation op) a b 23 word)
-made_word homes to op size a b word e = first (nat_lt to 3 && is_copying op size) refl e
+made_word homes to op size a b word e = first (nat_lt to 3 && is_moved op) refl e
   where
     by : (c : Bool) → (to == 2) ≡ c → (if c then one_word (long_operation op) homes (made_size op size) a b 23 else None) ≡ Some word → (to ≡ 2) × (made_size op size ≡ Long) × Joined homes (long_operation op) a b 23 word
     by true is e = let s = joined_long homes (long_operation op) (made_size op size) a b 23 word e in (eqb-true to 2 is, s.0, s.1)
     by false is e = absurd (cc e)
 
-    literal : (a : Arg) → nat_lt to 3 ≡ true → is_copying op size ≡ true → literal_word (21 + to) a ≡ Some word → Literally to op size a word
+    literal : (a : Arg) → nat_lt to 3 ≡ true → is_moved op ≡ true → literal_word (21 + to) a ≡ Some word → Literally to op size a word
     literal (arguments.Const value) few copies e = small (nat_lt value 256) refl e
       where
         small : (c : Bool) → nat_lt value 256 ≡ c → (if c then Some (Operate row.Bis 31 (seconds.Literal value) (21 + to)) else None) ≡ Some word → Literally to op size (arguments.Const value) word
@@ -204,9 +204,9 @@ made_word homes to op size a b word e = first (nat_lt to 3 && is_copying op size
     literal (arguments.Register number) few copies e = absurd (cc e)
     literal (arguments.Flag flag) few copies e = absurd (cc e)
 
-    first : (c : Bool) → (nat_lt to 3 && is_copying op size) ≡ c → (if c then literal_word (21 + to) a else if to == 2 then one_word (long_operation op) homes (made_size op size) a b 23 else None) ≡ Some word
+    first : (c : Bool) → (nat_lt to 3 && is_moved op) ≡ c → (if c then literal_word (21 + to) a else if to == 2 then one_word (long_operation op) homes (made_size op size) a b 23 else None) ≡ Some word
         → Literally to op size a word ⊎ ((to ≡ 2) × (made_size op size ≡ Long) × Joined homes (long_operation op) a b 23 word)
-    first true is e = let x = and_parts (nat_lt to 3) (is_copying op size) is in inl (literal a x.0 x.1 e)
+    first true is e = let x = and_parts (nat_lt to 3) (is_moved op) is in inl (literal a x.0 x.1 e)
     first false is e = inr (by (to == 2) refl e)
 
 pub made_operates : (homes : Homes) (to : ℕ) (op : MicroOp) (size : Size) (a b : Arg) (word : AlphaInstr) → made homes to op size a b ≡ Some word → is_operate word ≡ true
@@ -215,6 +215,9 @@ made_operates homes to op size a b word e = by (made_word homes to op size a b w
     by : Literally to op size a word ⊎ ((to ≡ 2) × (made_size op size ≡ Long) × Joined homes (long_operation op) a b 23 word) → is_operate word ≡ true
     by (inl c) = subst (λ (w : AlphaInstr). is_operate w ≡ true) (sym c.is) refl
     by (inr m) = subst (λ (w : AlphaInstr). is_operate w ≡ true) (sym m.2.is) refl
+
+pub compared_operates : (homes : Homes) (to : ℕ) (op : MicroOp) (size : Size) (a b : Arg) (word : AlphaInstr) → compared homes to op size a b ≡ Some word → is_operate word ≡ true
+compared_operates homes to op size a b word e = subst (λ (w : AlphaInstr). is_operate w ≡ true) (sym (joined_long homes (comparison op) size a b (21 + to) word e).1.is) refl
 
 pub no_quad : (quad : Bool) (q : Option AlphaInstr) → (not quad || is_some q) ≡ true → q ≡ None → quad ≡ false
 no_quad false q either none = refl
@@ -234,6 +237,19 @@ unfolding value_from
 moved_value Move x y held e = refl
 moved_value ZeroExtend x y held e = refl
 moved_value op x y held e = absurd (cc e)
+
+-- a literal is itself at each size
+literal_value : (op : MicroOp) (size : Size) (x y held : ℕ) → is_moved op ≡ true → x < 256 → computed op size x y held ≡ x
+unfolding value_from
+literal_value Move Byte x y held e lt = mod-eq_of_lt (omega (arith, lt))
+literal_value Move Word x y held e lt = mod-eq_of_lt (omega (arith, lt))
+literal_value Move Long x y held e lt = mod-eq_of_lt (omega (arith, lt))
+literal_value Move Quad x y held e lt = mod-eq_of_lt (omega (arith, lt))
+literal_value ZeroExtend Byte x y held e lt = mod-eq_of_lt (omega (arith, lt))
+literal_value ZeroExtend Word x y held e lt = mod-eq_of_lt (omega (arith, lt))
+literal_value ZeroExtend Long x y held e lt = mod-eq_of_lt (omega (arith, lt))
+literal_value ZeroExtend Quad x y held e lt = mod-eq_of_lt (omega (arith, lt))
+literal_value op size x y held e lt = absurd (cc e)
 
 picked : (A : Type 0) (c : Bool) (o : Option A) (r : A) → (if c then o else None) ≡ Some r → (c ≡ true) × (o ≡ Some r)
 picked A true o r e = (refl, e)
@@ -473,9 +489,8 @@ module _ (p : Placement) (site : Site) (known : Known) (homes : Homes) (standing
 
       is_value : computed op size (value a) (value b) (standing.temps to) ≡ c.value
       is_value =
-          let k = copying op size c.copies in
           ap (λ a. computed op size (value a) (value b) (standing.temps to)) c.constant
-          ∙ (ap (λ size. computed op size c.value (value b) (standing.temps to)) k.1 ∙ (moved_value op c.value (value b) (standing.temps to) k.0 ∙ low))
+          ∙ literal_value op size c.value (value b) (standing.temps to) c.copies c.small
 
   -- a comparison
   compares : (to : ℕ) (op : MicroOp) (size : Size) (a b : Arg) (word : AlphaInstr) → IsTarget (holder to) → IsArgument a → argument_fits known a ≡ true → IsArgument b → argument_fits known b ≡ true
@@ -671,6 +686,15 @@ module _ (p : Placement) (site : Site) (known : Known) (homes : Homes) (standing
       by (inr m) alone a_fits b_fits =
           let two = binary op m.2.operation m.2.is_operation in
           makes to op size a b word a_is a_fits (b_is two) (right (is_unary op) (argument_fits known b) two b_fits) none e m alone
+
+  pub compares_then : (to : ℕ) (op : MicroOp) (size : Size) (a b : Arg) (word : AlphaInstr) → computation_fits known to op a b ≡ true → IsTarget (holder to) → IsArgument a → (is_unary op ≡ false → IsArgument b) → is_direct homes to op size a b ≡ true
+      → copied homes to op size a ≡ None → made homes to op size a b ≡ None → compared homes to op size a b ≡ Some word → After to op size a b (effect word regs)
+  compares_then to op size a b word ok target a_is b_is direct none unmade e =
+      let x = all_four (nat_lt to 64) (argument_fits known a) (is_unary op || argument_fits known b) (not (is_select op) || holds known to) ok in
+      let y = all_three (not (is_quad size) || is_some (made homes to op size a b)) (not (is_select op)) (not (is_shared homes to)) direct in
+      let m = compared_word homes to op size a b word e in
+      let two = two_compared op m.1.operation m.1.is_operation in
+      compares to op size a b word target a_is x.1 (b_is two) (right (is_unary op) (argument_fits known b) two x.2) none unmade e (not-true (is_shared homes to) y.2)
 
   -- the words of a computation, and then what comes behind
   pub computes : (need pc to : ℕ) (op : MicroOp) (size : Size) (a b : Arg) (rest : List Line) (t : Tree)

@@ -1,8 +1,9 @@
 -- The end of a program whose operands are used where they stand: the codes, the register that is written, and what comes behind.
 use Rattle.std.proofs.Common.{◌≡◌, ℕ, ◌+◌, ◌/◌, ◌%◌, ◌^◌, ◌<◌, ◌≤◌, refl, sym, ap, ◌∙◌, subst, arith, eqb-true, List, [], ◌∷◌, ◌++◌, length, map, Option, Some, None, Bool, true, false, lit<, lit≤, length-append}
-use Rattle.std.specs.Prelude.{◌==◌, not, is_none, option_and_then, slice_set, unwrap_or, if◌then◌else◌}
+use Rattle.std.specs.Prelude.{◌==◌, ◌&&◌, nat_lt, not, is_none, option_and_then, slice_set, unwrap_or, if◌then◌else◌}
 use Rattle.std.specs.List.{list_all}
 use Rattle.std.proofs.lemmas.Bool.Decides.{nat_tests}
+use Rattle.std.proofs.lemmas.Bool.{and_parts, ltb-true}
 use Rattle.vt_words.specs.Quad.{left, sign_extended}
 use Rattle.vt_words.proofs.Longwords.{extended_again, extended_low, same_extended}
 use Rattle.vax_form.specs.State.{with_core, with_pc, with_register}
@@ -11,9 +12,9 @@ use Rattle.vax_form.specs.declared.instr.Size.{Size}
 use Rattle.vax_form.specs.declared.instr.Size.TheVariants.{Byte, Word, Long, Quad}
 use Rattle.vax_form.specs.declared.state.Flags.{Flags}
 use Rattle.alpha_encode.specs.declared.instr.AlphaInstr.{AlphaInstr}
-use Rattle.alpha_encode.specs.declared.instr.AlphaInstr.TheVariants.{Operate}
+use Rattle.alpha_encode.specs.declared.instr.AlphaInstr.TheVariants.{Memory, Branch, Operate, Jump, Pal}
 use Rattle.alpha_meaning.specs.Act.{second_value}
-use Rattle.alpha_meaning.specs.Loops.{effect, effects, fine, is_operate}
+use Rattle.alpha_meaning.specs.Loops.{effect, effects, fine, is_operate, written}
 use Rattle.alpha_meaning.specs.Result.{long, plus, result_of}
 use Rattle.alpha_meaning.specs.State.{Regs, at_place, put}
 use Rattle.alpha_meaning.proofs.Registers.{put_other, put_same}
@@ -22,11 +23,12 @@ use Rattle.exception_records.specs.Codes.{codes_by, comparison_codes, difference
 use Rattle.exception_records.specs.Shown.{codes_shown, registers_shown, still_held}
 use Rattle.exception_records.specs.declared.rules.CodeRule.{CodeRule}
 use Rattle.exception_records.specs.declared.rules.CodeRule.TheVariants as rules
+use Rattle.micro_ops.specs.declared.known.Holding.{Holding}
 use Rattle.micro_ops.specs.declared.known.Holding.TheVariants.{Nothing}
 use Rattle.micro_ops.specs.declared.known.Known.{Known}
 use Rattle.micro_ops.specs.declared.program.Exit.{Exit}
 use Rattle.micro_ops.specs.declared.program.Exit.TheVariants as exits
-use Rattle.micro_ops.specs.Fits.{exit_fits, is_from_psw, is_from_values, same, sources_fit}
+use Rattle.micro_ops.specs.Fits.{exit_fits, exit_holds, is_from_psw, is_from_values, same, sources_fit}
 use Rattle.micro_ops.specs.Known.{held, holds, is_something}
 use Rattle.micro_ops.specs.Leaving.{CodesComeFrom, SignsComeFrom, state_left}
 use Rattle.micro_ops.specs.Meaning.{Departure, Ended, Standing, departed, leaves_by, traps}
@@ -42,7 +44,7 @@ use Rattle.program_codegen.specs.declared.direct.Raised.{Raised}
 use Rattle.block_law.specs.Tidy.{is_kept}
 use Rattle.program_codegen.specs.declared.homes.Homes.{Homes}
 use Rattle.program_codegen.specs.declared.points.Site.{Site}
-use Rattle.program_codegen.specs.Homes.{IsHome, are_short_rules, commit_stays, is_left_alone, commit_words, end_lines, exit_stays, home_at, home_of, is_operand, is_short_rule, may_end, moved_words, none_raised, raised_at, commits_result, end_words, goes_alone, made_commit, spared, spared_words, waiting_words}
+use Rattle.program_codegen.specs.Homes.{IsHome, are_short_rules, commit_stays, is_left_alone, commit_words, end_lines, exit_stays, home_at, home_of, is_operand, is_short_rule, may_end, moved_words, none_raised, raised_at, end_words, waiting_words, goes_by, is_left, rewrites, stands_in, with_waiting}
 use Rattle.program_codegen.specs.Programs.{IsExit}
 use Rattle.program_codegen.specs.Words.{departing, plain, trap_lines}
 use Rattle.program_codegen.proofs.Coded.{Coded, carry_by, coded_by, fine_operates, registers_same, signs_by, sources_parts}
@@ -54,7 +56,7 @@ use Rattle.program_codegen.proofs.HomeCodes.{Moved, held_unread, home_stays, mov
 use Rattle.program_codegen.proofs.HomeHolding.{Direct, held_own, hidden, home_is}
 use Rattle.program_codegen.proofs.HomeNumbers.{IsExtended}
 use Rattle.program_codegen.proofs.HomeShapes.{moved_fine}
-use Rattle.program_codegen.proofs.HomeSparing.{Apart, Shortened, end_operates, makes_it, put_alike, shortened, spared_effects}
+use Rattle.program_codegen.proofs.HomeSparing.{Extends, end_operates, flipped, not_false, put_zero, waiting_same}
 use Rattle.program_codegen.proofs.Holding.{HoldsAs, Setting, ends, found, tree}
 use Rattle.program_codegen.proofs.Numbers.{all_three, all_four, committed_is}
 use Rattle.program_codegen.proofs.Testing.{trap_or, traps_first}
@@ -304,6 +306,20 @@ module _ (p : Placement) (site : Site) (codes : List AlphaInstr) (setting : Sett
 abbrev pub emptied : Known → Known
 emptied known = record known { temp0 = Nothing; temp1 = Nothing; temp2 = Nothing; temp3 = Nothing; temp4 = Nothing; temp5 = Nothing }
 
+-- no temporary holds anything, but for the one that an exit goes by
+abbrev pub held_for : Exit → (register : ℕ) → Holding → Holding
+held_for exit register holding = if goes_by exit register then holding else Nothing
+
+abbrev pub left_known : Exit → Known → Known
+left_known exit known = record known {
+  temp0 = held_for exit 21 known.temp0;
+  temp1 = held_for exit 22 known.temp1;
+  temp2 = held_for exit 23 known.temp2;
+  temp3 = held_for exit 24 known.temp3;
+  temp4 = held_for exit 25 known.temp4;
+  temp5 = held_for exit 26 known.temp5;
+}
+
 -- registers that show the same
 pub coded_alike : (p : Placement) (site : Site) (known : Known) (standing : Standing) (old new : Regs) (k : ℕ) → 21 ≤ k → k ≤ 27 → ((n : ℕ) → (n == k) ≡ false → new n ≡ old n) → Coded p site known standing old → Coded p site (emptied known) standing new
 coded_alike p site known standing old new k from to same c = record {
@@ -324,7 +340,87 @@ coded_alike p site known standing old new k from to same c = record {
     above : (n : ℕ) → 28 ≤ n → (n == k) ≡ false
     above n le = grind (arith, nat_tests)
 
-effects_append : (is js : List AlphaInstr) (f : Regs) → effects (is ++ js) f ≡ effects js (effects is f)
+-- registers of which those that are left are any
+module _ (p : Placement) (site : Site) (known : Known) (standing : Standing) (exit : Exit) (old new : Regs) (same : (n : ℕ) → is_left exit n ≡ false → new n ≡ old n) (c : Coded p site known standing old) where
+  low_kept : (n : ℕ) → n < 21 → is_left exit n ≡ false
+  low_kept n lt = let low : nat_lt 20 n ≡ false = grind (arith, nat_tests) in rw low refl
+
+  high_kept : (n : ℕ) → 27 ≤ n → is_left exit n ≡ false
+  high_kept n le = let high : nat_lt n 27 ≡ false = grind (arith, nat_tests) in rw high (nothing (nat_lt 20 n))
+    where
+      nothing : (c : Bool) → (c && false && not (goes_by exit n)) ≡ false
+      nothing true = refl
+      nothing false = refl
+
+  all_kept : (n : ℕ) → is_kept n ≡ true → new n ≡ old n
+  all_kept n e = by (nat_lt n 21) refl
+    where
+      by : (c : Bool) → nat_lt n 21 ≡ c → new n ≡ old n
+      by true lt = same n (low_kept n (ltb-true n 21 lt))
+      by false not_so = let le : 27 ≤ n = grind (arith, nat_tests, e, not_so) in same n (high_kept n le)
+
+  stays_held : (register : ℕ) (holding : Holding) (value : ℕ) → HoldsAs holding value (old register) → HoldsAs (held_for exit register holding) value (new register)
+  stays_held register holding value h = by (goes_by exit register) refl
+    where
+      by : (c : Bool) → goes_by exit register ≡ c → HoldsAs (if c then holding else Nothing) value (new register)
+      by false e = tt
+      by true e = subst (HoldsAs holding value) (sym (same register (rw e (nothing (nat_lt 20 register) (nat_lt register 27))))) h
+        where
+          nothing : (c d : Bool) → (c && d && false) ≡ false
+          nothing true true = refl
+          nothing true false = refl
+          nothing false d = refl
+
+  coded_left : Coded p site (left_known exit known) standing new
+  coded_left = record {
+    form = form_kept old new all_kept (same 31 (high_kept 31 (lit≤ tt))) c.form;
+    temps = λ temp lt.
+        by_six (λ n. (n == 3) ≡ false → (n == 4) ≡ false → HoldsAs (held (left_known exit known) n) (standing.temps n) (new (21 + n)))
+        (λ three four. stays_held 21 known.temp0 (standing.temps 0) (c.temps 0 (lit< tt) three four))
+        (λ three four. stays_held 22 known.temp1 (standing.temps 1) (c.temps 1 (lit< tt) three four))
+        (λ three four. stays_held 23 known.temp2 (standing.temps 2) (c.temps 2 (lit< tt) three four))
+        (λ three four. absurd (cc three)) (λ three four. absurd (cc four))
+        (λ three four. stays_held 26 known.temp5 (standing.temps 5) (c.temps 5 (lit< tt) three four)) temp lt;
+    state = c.state ∙ ap (λ (rs : List ℕ). with_core p.begun rs p.begun.pc standing.state.psw) (sym (registers_same old new (λ n lt. same n (low_kept n (omega arith)))));
+    upper = c.upper ∙ ap (λ n. n / 16) (sym (same 20 (low_kept 20 (lit< tt))));
+    before = λ e f. codes_kept old new site.before p.held all_kept ∙ c.before e f;
+    codes = codes_kept old new site.behind (still_held p.held p.written) all_kept ∙ c.codes;
+  }
+
+-- the exit finds its temporary there
+left_holds : (exit : Exit) (known : Known) → IsExit exit → ExitHolds known exit → ExitHolds (left_known exit known) exit
+left_holds exits.Next known is there = tt
+left_holds (exits.Fixed address) known is there = tt
+left_holds (exits.Computed temp) known is there =
+    by_six (λ n. exit_holds known n ≡ true → exit_holds (left_known (exits.Computed n) known) n ≡ true) (λ e. e) (λ e. e) (λ e. e) (λ e. e) (λ e. e) (λ e. e) temp is there
+left_holds (exits.Choice when taken other) known is there =
+    by_six (λ n. exit_holds known n ≡ true → exit_holds (left_known (exits.Choice n taken other) known) n ≡ true) (λ e. e) (λ e. e) (λ e. e) (λ e. e) (λ e. e) (λ e. e) when is.0 there
+left_holds (exits.Service temp) known is there = tt
+left_holds exits.Breakpoint known is there = tt
+
+-- it is two words that operate, or fewer
+abbrev pub Waits : Homes → Type 0
+Waits homes = (list_all is_operate (waiting_words homes.before) ≡ true) × (list_all is_operate (waiting_words homes.waiting) ≡ true)
+
+-- the registers behind what waits
+abbrev pub begins : Homes → Regs → Regs
+begins homes regs = effects (waiting_words homes.waiting) (effects (waiting_words homes.before) regs)
+
+pub effect_other : (word : AlphaInstr) (f : Regs) (n : ℕ) → (n == written word) ≡ false → effect word f n ≡ f n
+effect_other (Operate op ra rb rc) f n e = put_other f rc (result_of op (f ra) (second_value rb f) (f rc)) n e
+effect_other (Memory op ra rb disp) f n e = refl
+effect_other (Branch op ra disp) f n e = refl
+effect_other (Jump ra rb) f n e = refl
+effect_other (Pal number) f n e = refl
+
+effect_zero : (word : AlphaInstr) (f : Regs) → effect word f 31 ≡ f 31
+effect_zero (Operate op ra rb rc) f = put_zero f rc (result_of op (f ra) (second_value rb f) (f rc))
+effect_zero (Memory op ra rb disp) f = refl
+effect_zero (Branch op ra disp) f = refl
+effect_zero (Jump ra rb) f = refl
+effect_zero (Pal number) f = refl
+
+pub effects_append : (is js : List AlphaInstr) (f : Regs) → effects (is ++ js) f ≡ effects js (effects is f)
 effects_append [] js f = refl
 effects_append (i ∷ is) js f = effects_append is js (effect i f)
 
@@ -336,87 +432,63 @@ record Behind (p : Placement) (site : Site) (known : Known) (standing : Standing
   pub same_changed : now.psw ≡ known.psw
   pub exit_holds : ExitHolds now exit
 
-module _ (p : Placement) (site : Site) (codes : List AlphaInstr) (setting : Setting p site codes) (known : Known) (homes : Homes) (standing : Standing) (regs : Regs) (d : Direct p site known homes standing (effects (waiting_words homes.waiting) regs)) where
+module _ (p : Placement) (site : Site) (codes : List AlphaInstr) (setting : Setting p site codes) (known : Known) (homes : Homes) (standing : Standing) (regs : Regs) (d : Direct p site known homes standing (begins homes regs)) where
   abbrev direct_regs : Regs
-  direct_regs = effects (waiting_words homes.waiting) regs
+  direct_regs = begins homes regs
 
-  -- the result is made where it goes
-  short_end : (commit : Option (ℕ × ℕ)) (exit : Exit) (words row : List AlphaInstr) (made : AlphaInstr) → Shortened homes commit exit words made row → homes.waiting ≡ Some made
-      → Coded p site (hidden homes known) (committed commit standing) (effects (commit_words homes commit) (effects words (effects (waiting_words homes.waiting) regs)))
-      → Behind p site (hidden homes known) (committed commit standing) exit (effects row regs)
-  short_end commit exit words row made s waits c = record {
-    now = emptied (hidden homes known);
-    coded = subst (λ row. Coded p site (emptied (hidden homes known)) (committed commit standing) (effects row regs)) (sym (s.whole ∙ ap (λ made. s.front ++ made_commit made commit) s.is))
-        (subst (Coded p site (emptied (hidden homes known)) (committed commit standing)) (sym (effects_append s.front (made_commit (Operate s.operation s.first s.second 23) commit) regs))
-        (coded_alike p site (hidden homes known) (committed commit standing) (effects (commit_words homes commit) (effects words begun)) (effects (made_commit (Operate s.operation s.first s.second 23) commit) (effects s.front regs)) 23 (lit≤ tt) (lit≤ tt) (at_end commit s.commits) (subst (λ (o : Option AlphaInstr). Coded p site (hidden homes known) (committed commit standing) (effects (commit_words homes commit) (effects words (effects (waiting_words o) regs)))) whole_made c)));
+  zero_still : (o : Option AlphaInstr) (f : Regs) → effects (waiting_words o) f 31 ≡ f 31
+  zero_still None f = refl
+  zero_still (Some word) f = effect_zero word f
+
+  -- what waits makes homes
+  home_extends : (word : AlphaInstr) (f : Regs) → f ≡ begins homes regs → stands_in (home_at homes (written word)) (written word) ≡ true → IsExtended (f (written word))
+  home_extends word f is stands = subst (λ (f : Regs). IsExtended (f (written word))) (sym is) (of (home_at homes (written word)) refl stands)
+    where
+      of : (o : Option ℕ) → home_at homes (written word) ≡ o → stands_in o (written word) ≡ true → IsExtended (begins homes regs (written word))
+      of None e stands = absurd (cc stands)
+      of (Some r) e stands =
+          let same = eqb-true r (written word) stands in
+          (there p site known homes standing (begins homes regs) d (written word) (written word) (e ∙ ap (λ n. Some n) same)).1
+
+  last_extends : (o : Option AlphaInstr) → homes.waiting ≡ o → Extends homes None o (effects (waiting_words homes.before) regs)
+  last_extends None e = tt
+  last_extends (Some word) e = λ makes.
+      home_extends word (effect word (effects (waiting_words homes.before) regs)) (ap (λ (o : Option AlphaInstr). effects (waiting_words o) (effects (waiting_words homes.before) regs)) (sym e))
+      (and_parts (stands_in (home_at homes (written word)) (written word)) true makes).0
+
+  first_extends : (o : Option AlphaInstr) → homes.before ≡ o → Extends homes homes.waiting o regs
+  first_extends None e = tt
+  first_extends (Some word) e = λ makes.
+      let x = and_parts (stands_in (home_at homes (written word)) (written word)) (not (rewrites (written word) homes.waiting)) makes in
+      let whole : begins homes regs ≡ effects (waiting_words homes.waiting) (effect word regs) = ap (λ (o : Option AlphaInstr). effects (waiting_words homes.waiting) (effects (waiting_words o) regs)) e in
+      subst IsExtended (ap (λ (f : Regs). f (written word)) whole ∙ not_rewritten homes.waiting x.1)
+      (home_extends word (begins homes regs) refl x.0)
+    where
+      not_rewritten : (o : Option AlphaInstr) → not (rewrites (written word) o) ≡ true → effects (waiting_words o) (effect word regs) (written word) ≡ effect word regs (written word)
+      not_rewritten None e = refl
+      not_rewritten (Some next) e = effect_other next (effect word regs) (written word) (flipped (written next) (written word) (not_false (written next == written word) e))
+
+  row_same : (commit : Option (ℕ × ℕ)) (exit : Exit) (words : List AlphaInstr) (n : ℕ) → is_left exit n ≡ false
+      → effects (end_words homes commit exit words) regs n ≡ effects (commit_words homes commit) (effects words (begins homes regs)) n
+  row_same commit exit words n kept =
+      let all = words ++ commit_words homes commit in
+      waiting_same exit homes homes.waiting homes.before (with_waiting exit homes homes.waiting None (words ++ commit_words homes commit)) regs (first_extends homes.before refl) (sym (zero_still homes.waiting (effects (waiting_words homes.before) regs)) ∙ d.holds.form.zero) n kept
+      ∙ (waiting_same exit homes None homes.waiting (words ++ commit_words homes commit) (effects (waiting_words homes.before) regs) (last_extends homes.waiting refl) d.holds.form.zero n kept
+      ∙ ap (λ (f : Regs). f n) (effects_append words (commit_words homes commit) (begins homes regs)))
+
+  end_coded : (commit : Option (ℕ × ℕ)) (exit : Exit) (words : List AlphaInstr) → IsExit exit → ExitHolds (hidden homes known) exit
+      → Coded p site (hidden homes known) (committed commit standing) (effects (commit_words homes commit) (effects words (begins homes regs)))
+      → Behind p site (hidden homes known) (committed commit standing) exit (effects (end_words homes commit exit words) regs)
+  end_coded commit exit words is holds c = record {
+    now = left_known exit (hidden homes known);
+    coded = coded_left p site (hidden homes known) (committed commit standing) exit (effects (commit_words homes commit) (effects words (begins homes regs))) (effects (end_words homes commit exit words) regs) (row_same commit exit words) c;
     same_codes = refl;
     same_changed = refl;
-    exit_holds = holds exit s.alone;
+    exit_holds = left_holds exit (hidden homes known) is holds;
   }
-    where
-      whole_made : homes.waiting ≡ Some (Operate s.operation s.first s.second 23)
-      whole_made = waits ∙ ap (λ made. Some made) s.is
-
-      begun : Regs
-      begun = effect (Operate s.operation s.first s.second 23) regs
-
-      y : ℕ
-      y = result_of s.operation (regs s.first) (second_value s.second regs) (regs 23)
-
-      there : put regs 23 (result_of s.operation (regs s.first) (second_value s.second regs) (regs 23)) 23 ≡ result_of s.operation (regs s.first) (second_value s.second regs) (regs 23)
-      there = put_same regs 23 (result_of s.operation (regs s.first) (second_value s.second regs) (regs 23)) refl
-
-      zero_read : put regs 23 (result_of s.operation (regs s.first) (second_value s.second regs) (regs 23)) 31 ≡ 0
-      zero_read = subst (λ (o : Option AlphaInstr). effects (waiting_words o) regs 31 ≡ 0) whole_made d.holds.form.zero
-
-      extended : IsExtended y
-      extended = subst IsExtended there (subst (λ (o : Option AlphaInstr). IsExtended (effects (waiting_words o) regs 23)) whole_made (d.values 2 23 s.home).1)
-
-      apart : Apart s.operation s.first s.second s.unheld y (effects s.front regs) (effects words begun)
-      apart = spared_effects s.operation s.first s.second s.unheld y words s.front regs begun (subst (λ made. spared_words made words ≡ Some s.front) s.is s.found) (record {
-        same = λ n not_so. sym (put_other regs 23 (result_of s.operation (regs s.first) (second_value s.second regs) (regs 23)) n not_so);
-        made = held_unread s.operation (regs s.first) (second_value s.second regs) 0 (regs 23) s.unheld;
-        there = there;
-        zero = zero_read;
-      })
-
-      at_end : (commit : Option (ℕ × ℕ)) → commits_result commit ≡ true → (n : ℕ) → (n == 23) ≡ false
-          → effects (made_commit (Operate s.operation s.first s.second 23) commit) (effects s.front regs) n ≡ effects (commit_words homes commit) (effects words begun) n
-      at_end None is n not_so = apart.same n not_so
-      at_end (Some commit) is n not_so =
-          let from : home_of homes commit.1 ≡ Some 23 = ap (home_of homes) (eqb-true commit.1 2 is) ∙ s.home in
-          let place : unwrap_or (home_of homes commit.1) (21 + commit.1) ≡ 23 = ap (λ (o : Option ℕ). unwrap_or o (21 + commit.1)) from in
-          let value : long (plus (effects words begun (unwrap_or (home_of homes commit.1) (21 + commit.1))) 0) ≡ y = ap (λ n. long (plus (effects words begun n) 0)) place ∙ (ap (λ n. long (plus n 0)) apart.there ∙ (committed_is y ∙ extended)) in
-          put_alike (effects s.front regs) (effects words begun) commit.0 _ _ n
-          (makes_it s.operation s.first s.second s.unheld y (effects s.front regs) (effects words begun) (effects s.front regs commit.0) apart ∙ sym value) (apart.same n not_so)
-
-      holds : (exit : Exit) → goes_alone exit ≡ true → ExitHolds (emptied (hidden homes known)) exit
-      holds exits.Next e = tt
-      holds (exits.Fixed address) e = tt
-      holds (exits.Choice when taken other) e = absurd (cc e)
-      holds (exits.Computed temp) e = absurd (cc e)
-      holds (exits.Service temp) e = absurd (cc e)
-      holds exits.Breakpoint e = absurd (cc e)
-
-  end_coded : (commit : Option (ℕ × ℕ)) (exit : Exit) (words : List AlphaInstr) → ExitHolds (hidden homes known) exit
-      → Coded p site (hidden homes known) (committed commit standing) (effects (commit_words homes commit) (effects words (effects (waiting_words homes.waiting) regs)))
-      → Behind p site (hidden homes known) (committed commit standing) exit (effects (end_words homes.waiting homes commit exit words) regs)
-  end_coded commit exit words holds c = by (option_and_then (spared homes commit exit words) homes.waiting) refl
-    where
-      all : effects (waiting_words homes.waiting ++ (words ++ commit_words homes commit)) regs ≡ effects (commit_words homes commit) (effects words (effects (waiting_words homes.waiting) regs))
-      all = effects_append (waiting_words homes.waiting) (words ++ commit_words homes commit) regs ∙ effects_append words (commit_words homes commit) (effects (waiting_words homes.waiting) regs)
-
-      by : (o : Option (List AlphaInstr)) → option_and_then (spared homes commit exit words) homes.waiting ≡ o
-          → Behind p site (hidden homes known) (committed commit standing) exit (effects (unwrap_or o (waiting_words homes.waiting ++ (words ++ commit_words homes commit))) regs)
-      by None e = record { now = hidden homes known; coded = subst (Coded p site (hidden homes known) (committed commit standing)) (sym all) c; same_codes = refl; same_changed = refl; exit_holds = holds }
-      by (Some row) e = let x = waited homes.waiting refl e in short_end commit exit words row x.0 (shortened homes commit exit words x.0 row x.2) x.1 c
-        where
-          waited : (o : Option AlphaInstr) → homes.waiting ≡ o → option_and_then (spared homes commit exit words) o ≡ Some row → (made : AlphaInstr) × (homes.waiting ≡ Some made) × (spared homes commit exit words made ≡ Some row)
-          waited None f e = absurd (cc e)
-          waited (Some made) f e = (made, f, e)
 
   -- ---- the whole end
-  ends_by : (exit : Exit) (onward : Departure) (commit : Option (ℕ × ℕ)) (words : List AlphaInstr) (pc : ℕ) → list_all is_operate (waiting_words homes.waiting) ≡ true → moved_words homes codes ≡ Some words
+  ends_by : (exit : Exit) (onward : Departure) (commit : Option (ℕ × ℕ)) (words : List AlphaInstr) (pc : ℕ) → Waits homes → moved_words homes codes ≡ Some words
       → Within p site.behind pc (end_lines site homes commit exit words) → commit_stays commit ≡ true → exit_stays homes exit ≡ true → are_short_rules site.behind ≡ true → CommitFits known commit
       → IsExit exit → exit_fits known exit ≡ true → sources_fit site.sources known ≡ true
       → CodesComeFrom site.sources p.begun (record { departure = trap_or site (committed commit standing) exit onward; temps = (committed commit standing).temps }) → (state_left onward).psw ≡ (committed commit standing).state.psw
@@ -426,23 +498,23 @@ module _ (p : Placement) (site : Site) (codes : List AlphaInstr) (setting : Sett
       let some = departs_some p site codes setting exit in
       let only = moved_fine homes d.are (may_be_written site.sources) codes words moved setting.leaves.only in
       let rest = trap_lines site exit ++ departing site exit in
-      let row = end_words homes.waiting homes commit exit words in
-      let first = row_length p site.behind (end_words homes.waiting homes commit exit words) rest in
+      let row = end_words homes commit exit words in
+      let first = row_length p site.behind (end_words homes commit exit words) rest in
       let third = length-append (trap_lines site exit) (departing site exit) in
       let whole = same_psw (committed commit standing) _ onward (traps (committed commit standing)) left in
       let high = w.high in
       let t = departed p.serve (trap_or site (committed commit standing) exit onward) in
       let c = leaves_codes p site codes setting known homes standing direct_regs d words (trap_or site (committed commit standing) exit onward) moved sources short (whole ∙ same_psw_left p site codes setting known homes standing direct_regs d commit)
       (subst (λ temps. CodesComeFrom site.sources p.begun (record { departure = trap_or site (committed commit standing) exit onward; temps = temps })) (same_temps p site codes setting known homes standing direct_regs d commit) come) in
-      let e = end_coded commit exit words (exit_known p site codes setting known homes standing direct_regs d exit exit_ok ok) (committed_coded p site codes setting known homes standing direct_regs d words commit only stays fits c) in
-      let w1 = row_rest p site.behind pc (end_words homes.waiting homes commit exit words) rest w in
+      let e = end_coded commit exit words is (exit_known p site codes setting known homes standing direct_regs d exit exit_ok ok) (committed_coded p site codes setting known homes standing direct_regs d words commit only stays fits c) in
+      let w1 = row_rest p site.behind pc (end_words homes commit exit words) rest w in
       let signs = subst (λ temps. SignsComeFrom site.sources.nzv p.begun.psw (state_left (trap_or site (committed commit standing) exit onward)).psw temps) (same_temps p site codes setting known homes standing direct_regs d commit) come.signs in
       let o = overflows p site codes setting known homes standing direct_regs d commit _ sources whole signs in
-      roomy p None (length (end_words homes.waiting homes commit exit words) + (length (trap_lines site exit) + length (departing site exit))) (length (end_lines site homes commit exit words)) (at_place regs pc) t (omega arith)
-      (operates p None (length (trap_lines site exit) + length (departing site exit)) (end_words homes.waiting homes commit exit words) regs pc t (row_words p site.behind pc (end_words homes.waiting homes commit exit words) rest w)
-      (end_operates homes commit exit words waits (fine_operates (may_be_written site.sources) words only)) w.low (omega arith) (λ q lt le. is_inside p site.behind pc q (map plain (end_words homes.waiting homes commit exit words) ++ (trap_lines site exit ++ departing site exit)) w lt (omega arith))
+      roomy p None (length (end_words homes commit exit words) + (length (trap_lines site exit) + length (departing site exit))) (length (end_lines site homes commit exit words)) (at_place regs pc) t (omega arith)
+      (operates p None (length (trap_lines site exit) + length (departing site exit)) (end_words homes commit exit words) regs pc t (row_words p site.behind pc (end_words homes commit exit words) rest w)
+      (end_operates homes commit exit words waits.0 waits.1 (fine_operates (may_be_written site.sources) words only)) w.low (omega arith) (λ q lt le. is_inside p site.behind pc q (map plain (end_words homes commit exit words) ++ (trap_lines site exit ++ departing site exit)) w lt (omega arith))
       (traps_first p site e.now (committed commit standing) setting.after p.begun.psw setting.written (still_overflows e.now e.same_codes e.same_changed commit o) setting.narrow
-      (length (departing site exit)) (pc + length (end_words homes.waiting homes commit exit words)) exit (departing site exit) (effects (end_words homes.waiting homes commit exit words) regs) onward e.coded is e.exit_holds w1 some
+      (length (departing site exit)) (pc + length (end_words homes commit exit words)) exit (departing site exit) (effects (end_words homes commit exit words) regs) onward e.coded is e.exit_holds w1 some
       (λ g' pc' untrapped c' w'. behind e.now g' pc' c' e.exit_holds w')))
     where
       still_overflows : (now : Known) → now.codes ≡ known.codes → now.psw ≡ known.psw → (commit : Option (ℕ × ℕ)) → Overflows site (hidden homes known) (committed commit standing) p.begun.psw → Overflows site now (committed commit standing) p.begun.psw
@@ -454,7 +526,7 @@ module _ (p : Placement) (site : Site) (codes : List AlphaInstr) (setting : Sett
         signs = o.signs;
       }
 
-  pub end_follows : (exit : Exit) (commit : Option (ℕ × ℕ)) (words : List AlphaInstr) (pc : ℕ) → list_all is_operate (waiting_words homes.waiting) ≡ true → moved_words homes codes ≡ Some words
+  pub end_follows : (exit : Exit) (commit : Option (ℕ × ℕ)) (words : List AlphaInstr) (pc : ℕ) → Waits homes → moved_words homes codes ≡ Some words
       → Within p site.behind pc (end_lines site homes commit exit words) → may_end site homes commit exit ≡ true → CommitFits known commit
       → IsExit exit → exit_fits known exit ≡ true → sources_fit site.sources known ≡ true
       → AtLeaves (CodesComeFrom site.sources p.begun) (leaves_by exit (found p site) (committed commit standing))

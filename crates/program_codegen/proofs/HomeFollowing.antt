@@ -9,7 +9,7 @@ use Rattle.vax_form.specs.State.{with_register, Answers}
 use Rattle.vax_form.specs.Tree.{Tree}
 use Rattle.vax_form.specs.declared.instr.Size.{Size}
 use Rattle.alpha_encode.specs.declared.instr.AlphaInstr.{AlphaInstr}
-use Rattle.alpha_meaning.specs.Loops.{effects, is_operate}
+use Rattle.alpha_meaning.specs.Loops.{effect, effects, is_operate}
 use Rattle.alpha_meaning.specs.State.{Regs, at_place}
 use Rattle.micro_ops.specs.declared.known.Known.{Known}
 use Rattle.micro_ops.specs.declared.program.Arg.{Arg}
@@ -33,18 +33,19 @@ use Rattle.vax_form.specs.Ranges.{IsInRange}
 use Rattle.vax_form.specs.declared.state.Reference.{Reference}
 use Rattle.alpha_encode.specs.declared.instr.AlphaInstr.TheVariants.{Pal}
 use Rattle.micro_ops.specs.declared.known.Checked.TheVariants.{At}
+use Rattle.program_codegen.proofs.HomeSparing.{all_append}
 use Rattle.program_codegen.proofs.Operands.{count_some, read_value, write_done}
 use Rattle.program_codegen.proofs.HomeReaching.{direct_checks, direct_reads, direct_writes}
 use Rattle.program_codegen.specs.declared.homes.Homes.{Homes}
 use Rattle.program_codegen.specs.declared.lines.Line.{Line}
 use Rattle.program_codegen.specs.declared.points.Site.{Site}
-use Rattle.program_codegen.specs.Homes.{are_short_rules, choice_lines, commit_stays, copied, direct_by, direct_code, direct_end, direct_lines, direct_step, end_at, end_lines, end_words, exit_behind, exit_stays, is_direct, made, may_end, moved_words, needed_words, new_home, next_exit, step_by, tested_at, tested_exit, waiting_words, with_home, is_shared, may_write, reach, reached, read_home, reading, settled, stands, with_waiting}
+use Rattle.program_codegen.specs.Homes.{are_short_rules, choice_lines, commit_stays, copied, direct_by, direct_code, direct_end, direct_lines, direct_step, end_at, end_lines, end_words, exit_behind, exit_stays, is_direct, made, may_end, moved_words, needed_words, new_home, next_exit, step_by, tested_at, tested_exit, waiting_words, with_home, is_shared, may_write, reach, reached, read_home, reading, settled, stands, compared, tested_words, all_waiting, behind_waiting}
 use Rattle.program_codegen.specs.Programs.{AllHaveWords, ReadsReady}
 use Rattle.program_codegen.specs.Words.{departing, plain, trap_lines, copy, marked, probing, write_by}
 use Rattle.program_codegen.proofs.Committing.{sets_codes}
 use Rattle.program_codegen.proofs.Following.{departs, opened}
-use Rattle.program_codegen.proofs.HomeComputing.{computes, copies_then, made_operates, makes_then}
-use Rattle.program_codegen.proofs.HomeEnding.{CommitFits, committed, end_follows}
+use Rattle.program_codegen.proofs.HomeComputing.{compared_operates, compares_then, computes, copies_then, made_operates, makes_then}
+use Rattle.program_codegen.proofs.HomeEnding.{CommitFits, Waits, begins, committed, end_follows, effects_append}
 use Rattle.program_codegen.proofs.HomeHolding.{Direct, committing, hidden, written}
 use Rattle.program_codegen.proofs.HomeSomes.{chained, first_is, mapped}
 use Rattle.program_codegen.proofs.HomeTesting.{Tested, tested, tested_follows}
@@ -70,18 +71,14 @@ stepped site homes to op size a b program step out is e = by out (is_direct home
     by false false is e = absurd (cc e)
 
 -- what waits does so behind a write
-pub waits_same : (to : ℕ) (home : Option ℕ) (homes : Homes) → (with_home to home homes).waiting ≡ homes.waiting
+pub waits_same : (to : ℕ) (home : Option ℕ) (homes : Homes) → ((with_home to home homes).before ≡ homes.before) × ((with_home to home homes).waiting ≡ homes.waiting)
 waits_same to home homes = by (to == 0) refl (to == 1) refl (to == 2) refl
   where
-    by : (a : Bool) → (to == 0) ≡ a → (b : Bool) → (to == 1) ≡ b → (c : Bool) → (to == 2) ≡ c → (with_home to home homes).waiting ≡ homes.waiting
-    by true e b f c g = rw e refl
-    by false e true f c g = rw (e, f) refl
-    by false e false f true g = rw (e, f, g) refl
-    by false e false f false g = rw (e, f, g) refl
-
--- it is one word that operates, or none
-abbrev pub Waits : Homes → Type 0
-Waits homes = list_all is_operate (waiting_words homes.waiting) ≡ true
+    by : (a : Bool) → (to == 0) ≡ a → (b : Bool) → (to == 1) ≡ b → (c : Bool) → (to == 2) ≡ c → ((with_home to home homes).before ≡ homes.before) × ((with_home to home homes).waiting ≡ homes.waiting)
+    by true e b f c g = (rw e refl, rw e refl)
+    by false e true f c g = (rw (e, f) refl, rw (e, f) refl)
+    by false e false f true g = (rw (e, f, g) refl, rw (e, f, g) refl)
+    by false e false f false g = (rw (e, f, g) refl, rw (e, f, g) refl)
 
 pub row_apart : (xs ys : List AlphaInstr) (rest : List Line) → map plain (xs ++ ys) ++ rest ≡ map plain xs ++ (map plain ys ++ rest)
 row_apart [] ys rest = refl
@@ -110,7 +107,7 @@ pub record Reaching (site : Site) (codes : List AlphaInstr) (homes : Homes) (ope
   pub is : reached site homes operation ≡ Some step
   pub rest : List Line
   pub onward : direct_lines site codes step.0 program ≡ Some rest
-  pub whole : (map plain (waiting_words homes.waiting) ++ step.1) ++ rest ≡ lines
+  pub whole : (map plain (all_waiting homes) ++ step.1) ++ rest ≡ lines
 
 pub reaching : (site : Site) (codes : List AlphaInstr) (homes : Homes) (operation : Micro) (program : List Micro) (lines : List Line)
     → option_and_then (λ (step : Homes × List Line). option_map (λ (lines : List Line). step.1 ++ lines) (direct_lines site codes step.0 program)) (reach site homes operation) ≡ Some lines
@@ -118,7 +115,7 @@ pub reaching : (site : Site) (codes : List AlphaInstr) (homes : Homes) (operatio
 reaching site codes homes operation program lines e =
     let c = chained (Homes × List Line) (List Line) (λ (step : Homes × List Line). option_map (λ (lines : List Line). step.1 ++ lines) (direct_lines site codes step.0 program)) (reach site homes operation) lines e in
     let m = mapped (List Line) (List Line) (λ (lines : List Line). c.found.1 ++ lines) (direct_lines site codes c.found.0 program) lines c.onward in
-    let r = mapped (Homes × List Line) (Homes × List Line) (with_waiting homes) (reached site homes operation) c.found c.is in
+    let r = mapped (Homes × List Line) (Homes × List Line) (behind_waiting homes) (reached site homes operation) c.found c.is in
     record {
       step = r.found;
       is = r.is;
@@ -145,7 +142,7 @@ module _ (site : Site) (codes : List AlphaInstr) where
       let x = ended site codes homes c.found.0 c.found.1 lines c.onward in
       let some = departs site c.found.1 in
       let rest = trap_lines site c.found.1 ++ departing site c.found.1 in
-      subst (λ (ls : List Line). 1 ≤ length ls) x.whole (last (map plain (end_words homes.waiting homes c.found.0 c.found.1 x.words)) (trap_lines site c.found.1) (departing site c.found.1) some)
+      subst (λ (ls : List Line). 1 ≤ length ls) x.whole (last (map plain (end_words homes c.found.0 c.found.1 x.words)) (trap_lines site c.found.1) (departing site c.found.1) some)
     where
       last : (xs cs ds : List Line) → 1 ≤ length ds → 1 ≤ length (xs ++ (cs ++ ds))
       last xs cs ds some =
@@ -158,7 +155,7 @@ module _ (site : Site) (codes : List AlphaInstr) where
   reach_some operation program homes lines later e =
       let r = reaching site codes homes operation program lines e in
       let some = later r.step.0 r.rest r.onward in
-      let count = length-append (map plain (waiting_words homes.waiting) ++ r.step.1) r.rest in
+      let count = length-append (map plain (all_waiting homes) ++ r.step.1) r.rest in
       subst (λ (ls : List Line). 1 ≤ length ls) r.whole (omega arith)
 
   -- lines of a program end with an exit
@@ -171,7 +168,7 @@ module _ (site : Site) (codes : List AlphaInstr) where
       by onward (inl tests) =
           let c = chained Exit (List Line) (tested_exit site codes homes to op size a b) (next_exit program) lines tests in
           let s = tested site codes homes to op size a b c.found lines c.onward in
-          let count = length-append (map plain (needed_words to s.test.1 homes.waiting)) (choice_lines s.test s.chosen s.other) in
+          let count = length-append (map plain (tested_words to s.test.1 homes)) (choice_lines s.test s.chosen s.other) in
           subst (λ (ls : List Line). 1 ≤ length ls) s.whole (omega arith)
       by onward (inr x) =
           let e = x.1 in
@@ -268,7 +265,7 @@ module _ (p : Placement) (site : Site) (codes : List AlphaInstr) (setting : Sett
       → exit_behind site.sources program ≡ Some exit → may_end site homes commit exit ≡ true → moved_words homes codes ≡ Some words
       → Within p site.behind pc (end_lines site homes commit exit words) → AllHaveWords site.sources program
       → known.ended ≡ false → is_ended (walk site.sources known program) ≡ true → CommitFits known commit
-      → Waits homes → Direct p site known homes standing (effects (waiting_words homes.waiting) regs) → AtLeaves (CodesComeFrom site.sources p.begun) (Course_of program (committed commit standing))
+      → Waits homes → Direct p site known homes standing (begins homes regs) → AtLeaves (CodesComeFrom site.sources p.begun) (Course_of program (committed commit standing))
       → Always p None (length (end_lines site homes commit exit words)) (at_place regs pc) (tree (ends p) (Course_of program (committed commit standing)))
   unfolding step
   ending [] exit commit homes words known standing regs pc e may moved w have off walked fits waits d agree = absurd (cc e)
@@ -283,14 +280,14 @@ module _ (p : Placement) (site : Site) (codes : List AlphaInstr) (setting : Sett
       subst (λ (s : Standing). Always p None (length (end_lines site homes commit exit words)) (at_place regs pc) (tree (ends p) (Course_of program s))) (sym same)
       (ending program exit commit homes words behind (with_value to value standing) regs pc y.1 may moved w have.1
       ((write_changes to (holding_of (leaves_longword (Compute to op size a b))) known).ended ∙ off) x.1 (fits_behind commit known to op size a b stays high fits) waits
-      (left_out known homes standing (effects (waiting_words homes.waiting) regs) to op size a b program value y.0 d)
+      (left_out known homes standing (begins homes regs) to op size a b program value y.0 d)
       (subst (λ (s : Standing). AtLeaves (CodesComeFrom site.sources p.begun) (Course_of program s)) same agree))
   ending (Codes n z v c ∷ program) exit commit homes words known standing regs pc e may moved w have off walked fits waits d agree =
       let x = walk_fits (codes_fit known n z v c) (record known { codes = true; changed = true }) (λ behind. walk site.sources behind program) (opened site.sources known (Codes n z v c) program off walked) in
       let same = codes_committed commit n z v c standing in
       subst (λ (s : Standing). Always p None (length (end_lines site homes commit exit words)) (at_place regs pc) (tree (ends p) (Course_of program s))) (sym same)
       (ending program exit commit homes words (record known { codes = true; changed = true }) (with_codes n z v c standing) regs pc e may moved w have.1 off x.1 (fits_coded commit known fits) waits
-      (set_codes n z v c known homes standing (effects (waiting_words homes.waiting) regs) d)
+      (set_codes n z v c known homes standing (begins homes regs) d)
       (subst (λ (s : Standing). AtLeaves (CodesComeFrom site.sources p.begun) (Course_of program s)) same agree))
   ending (Leave leave ∷ program) exit commit homes words known standing regs pc e may moved w have off walked fits waits d agree =
       let x = walk_fits (exit_fits known leave && sources_fit site.sources known) (record known { ended = true }) (λ behind. walk site.sources behind program) (opened site.sources known (Leave leave) program off walked) in
@@ -318,21 +315,22 @@ module _ (p : Placement) (site : Site) (codes : List AlphaInstr) (setting : Sett
   opens : (reference : Reference) (on : ℕ → Course Left) (reply : ℕ) → Good (Ask reference on) → Answers reference reply → Good (on reply)
   opens reference on reply good ok = (good.0.1 reply ok, good.1 reply ok)
 
-  -- the word that waits comes before the lines of a reference
-  reach_front : (homes : Homes) (front rest lines : List Line) (regs : Regs) (pc : ℕ) (t : Tree) → (map plain (waiting_words homes.waiting) ++ front) ++ rest ≡ lines → Waits homes → 1 ≤ length rest → Within p site.behind pc lines
-      → (Within p site.behind (pc + length (waiting_words homes.waiting)) (front ++ rest) → Always p None (length (front ++ rest)) (at_place (effects (waiting_words homes.waiting) regs) (pc + length (waiting_words homes.waiting))) t)
+  -- the words that wait come before the lines of a reference
+  reach_front : (homes : Homes) (front rest lines : List Line) (regs : Regs) (pc : ℕ) (t : Tree) → (map plain (all_waiting homes) ++ front) ++ rest ≡ lines → Waits homes → 1 ≤ length rest → Within p site.behind pc lines
+      → (Within p site.behind (pc + length (all_waiting homes)) (front ++ rest) → Always p None (length (front ++ rest)) (at_place (begins homes regs) (pc + length (all_waiting homes))) t)
       → Always p None (length lines) (at_place regs pc) t
   reach_front homes front rest lines regs pc t whole waits some w behind =
-      let split : map plain (waiting_words homes.waiting) ++ (front ++ rest) ≡ lines = sym (append_assoc (map plain (waiting_words homes.waiting)) front rest) ∙ whole in
+      let split : map plain (all_waiting homes) ++ (front ++ rest) ≡ lines = sym (append_assoc (map plain (all_waiting homes)) front rest) ∙ whole in
       let w' = subst (Within p site.behind pc) (sym split) w in
       let more = length-append front rest in
-      let count = row_length p site.behind (waiting_words homes.waiting) (front ++ rest) in
+      let count = row_length p site.behind (all_waiting homes) (front ++ rest) in
       let high = w'.high in
       subst (λ (ls : List Line). Always p None (length ls) (at_place regs pc) t) split
-      (roomy p None (length (waiting_words homes.waiting) + length (front ++ rest)) (length (map plain (waiting_words homes.waiting) ++ (front ++ rest))) (at_place regs pc) t (omega arith)
-      (operates p None (length (front ++ rest)) (waiting_words homes.waiting) regs pc t (row_words p site.behind pc (waiting_words homes.waiting) (front ++ rest) w') waits w'.low (omega arith)
-      (λ q lt le. is_inside p site.behind pc q (map plain (waiting_words homes.waiting) ++ (front ++ rest)) w' lt (omega arith))
-      (behind (row_rest p site.behind pc (waiting_words homes.waiting) (front ++ rest) w'))))
+      (roomy p None (length (all_waiting homes) + length (front ++ rest)) (length (map plain (all_waiting homes) ++ (front ++ rest))) (at_place regs pc) t (omega arith)
+      (operates p None (length (front ++ rest)) (all_waiting homes) regs pc t (row_words p site.behind pc (all_waiting homes) (front ++ rest) w') (all_append (waiting_words homes.before) (waiting_words homes.waiting) waits.0 waits.1) w'.low (omega arith)
+      (λ q lt le. is_inside p site.behind pc q (map plain (all_waiting homes) ++ (front ++ rest)) w' lt (omega arith))
+      (subst (λ (f : Regs). Always p None (length (front ++ rest)) (at_place f (pc + length (all_waiting homes))) t) (sym (effects_append (waiting_words homes.before) (waiting_words homes.waiting) regs))
+      (behind (row_rest p site.behind pc (all_waiting homes) (front ++ rest) w')))))
 
   later_sized : (operation : Micro) (program : List Micro) → list_all (has_bytes setting.bytes) (operation ∷ program) ≡ true → list_all (has_bytes setting.bytes) program ≡ true
   later_sized operation program sized = (and_parts (has_bytes setting.bytes operation) (list_all (has_bytes setting.bytes) program) sized).1
@@ -346,7 +344,7 @@ module _ (p : Placement) (site : Site) (codes : List AlphaInstr) (setting : Sett
   pub direct_follows : (program : List Micro) (homes : Homes) (lines : List Line) (known : Known) (standing : Standing) (regs : Regs) (pc : ℕ)
       → direct_lines site codes homes program ≡ Some lines → Within p site.behind pc lines → AllHaveWords site.sources program → ReadsReady site.before program
       → known.ended ≡ false → is_ended (walk site.sources known program) ≡ true
-      → Waits homes → Direct p site known homes standing (effects (waiting_words homes.waiting) regs) → list_all (has_bytes setting.bytes) program ≡ true → Good (Course_of program standing)
+      → Waits homes → Direct p site known homes standing (begins homes regs) → list_all (has_bytes setting.bytes) program ≡ true → Good (Course_of program standing)
       → Always p None (length lines) (at_place regs pc) (tree (ends p) (Course_of program standing))
   unfolding step
   direct_follows [] homes lines known standing regs pc e w have reads off walked waits d sized good = absurd (cc e)
@@ -363,25 +361,40 @@ module _ (p : Placement) (site : Site) (codes : List AlphaInstr) (setting : Sett
       after = behind_write to (holding_of (leaves_longword (Compute to op size a b))) known
 
       begun : Regs
-      begun = effects (waiting_words homes.waiting) regs
+      begun = begins homes regs
 
       homes_then : Homes
       homes_then = with_home to (new_home homes to op size a b) homes
 
       Onward : List Line → Type 0
       Onward rest = (standing' : Standing) (g : Regs) (pc' : ℕ) (homes' : Homes) → direct_lines site codes homes' program ≡ Some rest → Within p site.behind pc' rest → Waits homes'
-          → Direct p site (behind_write to (holding_of (leaves_longword (Compute to op size a b))) known) homes' standing' (effects (waiting_words homes'.waiting) g)
+          → Direct p site (behind_write to (holding_of (leaves_longword (Compute to op size a b))) known) homes' standing' (begins homes' g)
           → Good (Course_of program standing') → Follows program rest standing' g pc'
 
-      -- the word that waits comes first
-      first : (need : ℕ) (rest : List Line) (t : Tree) → 1 ≤ length rest → Within p site.behind pc (map plain (waiting_words homes.waiting) ++ rest)
-          → Always p None need (at_place (effects (waiting_words homes.waiting) regs) (pc + length (waiting_words homes.waiting))) t
-          → Always p None (length (waiting_words homes.waiting) + need) (at_place regs pc) t
-      first need rest t some w behind =
-          let count = row_length p site.behind (waiting_words homes.waiting) rest in
+      -- the words that wait come first
+      first : (o : Option AlphaInstr) (f : Regs) (pc' need : ℕ) (rest : List Line) (t : Tree) → list_all is_operate (waiting_words o) ≡ true → 1 ≤ length rest → Within p site.behind pc' (map plain (waiting_words o) ++ rest)
+          → Always p None need (at_place (effects (waiting_words o) f) (pc' + length (waiting_words o))) t
+          → Always p None (length (waiting_words o) + need) (at_place f pc') t
+      first o f pc' need rest t operate some w behind =
+          let count = row_length p site.behind (waiting_words o) rest in
           let high = w.high in
-          operates p None need (waiting_words homes.waiting) regs pc t (row_words p site.behind pc (waiting_words homes.waiting) rest w) waits w.low (omega arith)
-          (λ q lt le. is_inside p site.behind pc q (map plain (waiting_words homes.waiting) ++ rest) w lt (omega arith)) behind
+          operates p None need (waiting_words o) f pc' t (row_words p site.behind pc' (waiting_words o) rest w) operate w.low (omega arith)
+          (λ q lt le. is_inside p site.behind pc' q (map plain (waiting_words o) ++ rest) w lt (omega arith)) behind
+
+      -- a word that waits, behind the one before it
+      waits_on : (rest : List Line) (word : AlphaInstr) → is_operate word ≡ true → Onward rest
+          → Direct p site after homes_then (with_value to value standing) (effect word begun)
+          → direct_lines site codes (record homes_then { before = homes.waiting; waiting = Some word }) program ≡ Some rest
+          → Within p site.behind pc (map plain (waiting_words homes.before) ++ rest)
+          → Always p None (length (map plain (waiting_words homes.before) ++ rest)) (at_place regs pc) (tree (ends p) (Course_of (Compute to op size a b ∷ program) standing))
+      waits_on rest word operate onward d' is w =
+          let some = direct_some site codes program (record homes_then { before = homes.waiting; waiting = Some word }) rest is in
+          let count = row_length p site.behind (waiting_words homes.before) rest in
+          roomy p None (length (waiting_words homes.before) + length rest) (length (map plain (waiting_words homes.before) ++ rest)) (at_place regs pc) _ (omega arith)
+          (first homes.before regs pc (length rest) rest _ waits.0 some w
+          (onward (with_value to value standing) (effects (waiting_words homes.before) regs) (pc + length (waiting_words homes.before)) (record homes_then { before = homes.waiting; waiting = Some word }) is (row_rest p site.behind pc (waiting_words homes.before) rest w)
+          (waits.1, ap (λ c. c && true) operate)
+          (record { holds = d'.holds; are = d'.are; values = d'.values }) good))
 
       tested_then : (exit : Exit) (program : List Micro) → next_exit program ≡ Some exit → Tested site codes homes to op size a b exit lines → computation_fits known to op a b ≡ true → is_ended (walk site.sources after program) ≡ true → after.ended ≡ false
           → AllHaveWords site.sources (Compute to op size a b ∷ program) → ReadsReady site.before (Compute to op size a b ∷ program)
@@ -400,42 +413,42 @@ module _ (p : Placement) (site : Site) (codes : List AlphaInstr) (setting : Sett
       tested_then exit (operation ∷ program) is s fits walked off have reads agree = absurd (cc is)
 
       by_words : (rest : List Line) → computation_fits known to op a b ≡ true → Onward rest → is_left_out site.sources (Compute to op size a b) program ≡ false → is_direct homes to op size a b ≡ true
-          → (o : Option ℕ) → copied homes to op size a ≡ o → (q : Option AlphaInstr) → made homes to op size a b ≡ q
-          → direct_lines site codes (step_by o q homes.waiting homes_then (direct_code homes to op size a b)).0 program ≡ Some rest
-          → Within p site.behind pc (map plain (step_by o q homes.waiting homes_then (direct_code homes to op size a b)).1 ++ rest)
-          → Always p None (length (map plain (step_by o q homes.waiting homes_then (direct_code homes to op size a b)).1 ++ rest)) (at_place regs pc) (tree (ends p) (Course_of (Compute to op size a b ∷ program) standing))
-      by_words rest fits onward out direct (Some r) e q f is w =
+          → (o : Option ℕ) → copied homes to op size a ≡ o → (q : Option AlphaInstr) → made homes to op size a b ≡ q → (u : Option AlphaInstr) → compared homes to op size a b ≡ u
+          → direct_lines site codes (step_by o q u homes.before homes.waiting homes_then (direct_code homes to op size a b)).0 program ≡ Some rest
+          → Within p site.behind pc (map plain (step_by o q u homes.before homes.waiting homes_then (direct_code homes to op size a b)).1 ++ rest)
+          → Always p None (length (map plain (step_by o q u homes.before homes.waiting homes_then (direct_code homes to op size a b)).1 ++ rest)) (at_place regs pc) (tree (ends p) (Course_of (Compute to op size a b ∷ program) standing))
+      by_words rest fits onward out direct (Some r) e q f u h is w =
           let has = have.0 out in
           let d' = copies_then p site known homes standing begun d to op size a b r fits has.1 e in
+          let same = waits_same to (new_home homes to op size a b) homes in
           onward (with_value to value standing) regs pc homes_then is w
-          (subst (λ (o : Option AlphaInstr). list_all is_operate (waiting_words o) ≡ true) (sym (waits_same to (new_home homes to op size a b) homes)) waits)
-          (subst (λ (o : Option AlphaInstr). Direct p site after homes_then (with_value to value standing) (effects (waiting_words o) regs)) (sym (waits_same to (new_home homes to op size a b) homes)) d') good
-      by_words rest fits onward out direct None e (Some word) f is w =
+          (subst (λ (o : Option AlphaInstr). list_all is_operate (waiting_words o) ≡ true) (sym same.0) waits.0, subst (λ (o : Option AlphaInstr). list_all is_operate (waiting_words o) ≡ true) (sym same.1) waits.1)
+          (subst (λ (o : Option AlphaInstr). Direct p site after homes_then (with_value to value standing) (effects (waiting_words homes_then.waiting) (effects (waiting_words o) regs))) (sym same.0)
+          (subst (λ (o : Option AlphaInstr). Direct p site after homes_then (with_value to value standing) (effects (waiting_words o) (effects (waiting_words homes.before) regs))) (sym same.1) d')) good
+      by_words rest fits onward out direct None e (Some word) f u h is w =
           let has = have.0 out in
-          let operate = made_operates homes to op size a b word f in
-          let d' = makes_then p site known homes standing begun d to op size a b word fits has.1 has.2 direct e f in
-          let some = direct_some site codes program (record homes_then { waiting = Some word }) rest is in
-          let count = row_length p site.behind (waiting_words homes.waiting) rest in
-          roomy p None (length (waiting_words homes.waiting) + length rest) (length (map plain (waiting_words homes.waiting) ++ rest)) (at_place regs pc) _ (omega arith)
-          (first (length rest) rest _ some w
-          (onward (with_value to value standing) begun (pc + length (waiting_words homes.waiting)) (record homes_then { waiting = Some word }) is (row_rest p site.behind pc (waiting_words homes.waiting) rest w)
-          (ap (λ c. c && true) operate)
-          (record { holds = d'.holds; are = d'.are; values = d'.values }) good))
-      by_words rest fits onward out direct None e None f is w =
+          waits_on rest word (made_operates homes to op size a b word f) onward (makes_then p site known homes standing begun d to op size a b word fits has.1 has.2 direct e f) is w
+      by_words rest fits onward out direct None e None f (Some word) h is w =
           let has = have.0 out in
-          let some = direct_some site codes program (record homes_then { waiting = None }) rest is in
-          let split = row_apart (waiting_words homes.waiting) (direct_code homes to op size a b) rest in
+          waits_on rest word (compared_operates homes to op size a b word h) onward (compares_then p site known homes standing begun d to op size a b word fits has.0 has.1 has.2 direct e f h) is w
+      by_words rest fits onward out direct None e None f None h is w =
+          let has = have.0 out in
+          let some = direct_some site codes program (record homes_then { before = None; waiting = None }) rest is in
+          let split = row_apart (waiting_words homes.before) (waiting_words homes.waiting ++ direct_code homes to op size a b) rest ∙ ap (λ (lines : List Line). map plain (waiting_words homes.before) ++ lines) (row_apart (waiting_words homes.waiting) (direct_code homes to op size a b) rest) in
           let w' = subst (Within p site.behind pc) split w in
-          let w1 = row_rest p site.behind pc (waiting_words homes.waiting) (map plain (direct_code homes to op size a b) ++ rest) w' in
-          let count = row_length p site.behind (waiting_words homes.waiting) (map plain (direct_code homes to op size a b) ++ rest) in
+          let w1 = row_rest p site.behind pc (waiting_words homes.before) (map plain (waiting_words homes.waiting) ++ (map plain (direct_code homes to op size a b) ++ rest)) w' in
+          let w2 = row_rest p site.behind (pc + length (waiting_words homes.before)) (waiting_words homes.waiting) (map plain (direct_code homes to op size a b) ++ rest) w1 in
+          let count = row_length p site.behind (waiting_words homes.before) (map plain (waiting_words homes.waiting) ++ (map plain (direct_code homes to op size a b) ++ rest)) in
+          let counts = row_length p site.behind (waiting_words homes.waiting) (map plain (direct_code homes to op size a b) ++ rest) in
           let more = row_length p site.behind (direct_code homes to op size a b) rest in
           let same = ap (λ (lines : List Line). length lines) split in
-          roomy p None (length (waiting_words homes.waiting) + (length (direct_code homes to op size a b) + length rest)) (length (map plain (waiting_words homes.waiting ++ direct_code homes to op size a b) ++ rest)) (at_place regs pc) _ (omega arith)
-          (first (length (direct_code homes to op size a b) + length rest) (map plain (direct_code homes to op size a b) ++ rest) _ (omega arith) w'
-          (computes p site known homes standing begun d (length rest) (pc + length (waiting_words homes.waiting)) to op size a b rest _ w1 some fits has.0 has.1 has.2
+          roomy p None (length (waiting_words homes.before) + (length (waiting_words homes.waiting) + (length (direct_code homes to op size a b) + length rest))) (length (map plain (waiting_words homes.before ++ (waiting_words homes.waiting ++ direct_code homes to op size a b)) ++ rest)) (at_place regs pc) _ (omega arith)
+          (first homes.before regs pc (length (waiting_words homes.waiting) + (length (direct_code homes to op size a b) + length rest)) (map plain (waiting_words homes.waiting) ++ (map plain (direct_code homes to op size a b) ++ rest)) _ waits.0 (omega arith) w'
+          (first homes.waiting (effects (waiting_words homes.before) regs) (pc + length (waiting_words homes.before)) (length (direct_code homes to op size a b) + length rest) (map plain (direct_code homes to op size a b) ++ rest) _ waits.1 (omega arith) w1
+          (computes p site known homes standing begun d (length rest) (pc + length (waiting_words homes.before) + length (waiting_words homes.waiting)) to op size a b rest _ w2 some fits has.0 has.1 has.2
           (λ flag lt is. reads flag lt (or_left (reads_flag flag (Compute to op size a b)) (list_any (reads_flag flag) program) is)) direct
-          (λ g d'. onward (with_value to value standing) g (pc + length (waiting_words homes.waiting) + length (direct_code homes to op size a b)) (record homes_then { waiting = None }) is
-          (row_rest p site.behind (pc + length (waiting_words homes.waiting)) (direct_code homes to op size a b) rest w1) refl (record { holds = d'.holds; are = d'.are; values = d'.values }) good)))
+          (λ g d'. onward (with_value to value standing) g (pc + length (waiting_words homes.before) + length (waiting_words homes.waiting) + length (direct_code homes to op size a b)) (record homes_then { before = None; waiting = None }) is
+          (row_rest p site.behind (pc + length (waiting_words homes.before) + length (waiting_words homes.waiting)) (direct_code homes to op size a b) rest w2) (refl, refl) (record { holds = d'.holds; are = d'.are; values = d'.values }) good))))
 
       by : (step : Homes × List AlphaInstr) (rest : List Line) → direct_lines site codes step.0 program ≡ Some rest → map plain step.1 ++ rest ≡ lines → computation_fits known to op a b ≡ true → Onward rest
           → (out : Bool) → is_left_out site.sources (Compute to op size a b) program ≡ out → Stepped site homes to op size a b program step out
@@ -448,11 +461,11 @@ module _ (p : Placement) (site : Site) (codes : List AlphaInstr) (setting : Sett
       by step rest is whole fits onward false out s =
           let same : map plain (direct_by homes to op size a b).1 ++ rest ≡ lines = ap (λ (step : Homes × List AlphaInstr). map plain step.1 ++ rest) (sym s.is) ∙ whole in
           subst (λ (ls : List Line). Always p None (length ls) (at_place regs pc) (tree (ends p) (Course_of (Compute to op size a b ∷ program) standing))) same
-          (by_words rest fits onward out (s.direct refl) (copied homes to op size a) refl (made homes to op size a b) refl
+          (by_words rest fits onward out (s.direct refl) (copied homes to op size a) refl (made homes to op size a b) refl (compared homes to op size a b) refl
           (subst (λ (step : Homes × List AlphaInstr). direct_lines site codes step.0 program ≡ Some rest) s.is is) (subst (Within p site.behind pc) (sym same) w))
 
       of : computation_fits known to op a b ≡ true → is_ended (walk site.sources after program) ≡ true → after.ended ≡ false
-          → ((standing' : Standing) (g : Regs) (pc' : ℕ) (homes' : Homes) (rest : List Line) → direct_lines site codes homes' program ≡ Some rest → Within p site.behind pc' rest → Waits homes' → Direct p site (behind_write to (holding_of (leaves_longword (Compute to op size a b))) known) homes' standing' (effects (waiting_words homes'.waiting) g) → Good (Course_of program standing') → Follows program rest standing' g pc')
+          → ((standing' : Standing) (g : Regs) (pc' : ℕ) (homes' : Homes) (rest : List Line) → direct_lines site codes homes' program ≡ Some rest → Within p site.behind pc' rest → Waits homes' → Direct p site (behind_write to (holding_of (leaves_longword (Compute to op size a b))) known) homes' standing' (begins homes' g) → Good (Course_of program standing') → Follows program rest standing' g pc')
           → ((tested_at site codes homes (Compute to op size a b) program) ≡ Some lines) ⊎ (((tested_at site codes homes (Compute to op size a b) program) ≡ None) × ((option_and_then (λ (step : Homes × List AlphaInstr). option_map (λ (lines : List Line). map plain step.1 ++ lines) (direct_lines site codes step.0 program)) (direct_step site.sources homes to op size a b program)) ≡ Some lines)) → Always p None (length lines) (at_place regs pc) (tree (ends p) (Course_of (Compute to op size a b ∷ program) standing))
       of fits walked' off' onward (inl tests) =
           let c = chained Exit (List Line) (tested_exit site codes homes to op size a b) (next_exit program) lines tests in
@@ -469,14 +482,14 @@ module _ (p : Placement) (site : Site) (codes : List AlphaInstr) (setting : Sett
       let end = z.2 in
       subst (λ (ls : List Line). Follows (Commit number source ∷ program) ls standing regs pc) end.whole
       (ending program z.0 (Some (number, source)) homes end.words (behind_commit number known) standing regs pc z.1 end.may end.moved (subst (Within p site.behind pc) (sym end.whole) w) have.1 off x.1 (have.0.0, y.1)
-      waits (committing p site known homes number standing (effects (waiting_words homes.waiting) regs) have.0.0 d) good.1)
+      waits (committing p site known homes number standing (begins homes regs) have.0.0 d) good.1)
   direct_follows (Codes n z v c ∷ program) homes lines known standing regs pc e w have reads off walked waits d sized good =
       let x = walk_fits (codes_fit known n z v c) (record known { codes = true; changed = true }) (λ behind. walk site.sources behind program) (opened site.sources known (Codes n z v c) program off walked) in
       let y = with_exit site codes None (Codes n z v c) program homes lines refl e in
       let end = y.2 in
       subst (λ (ls : List Line). Follows (Codes n z v c ∷ program) ls standing regs pc) end.whole
       (ending program y.0 None homes end.words (record known { codes = true; changed = true }) (with_codes n z v c standing) regs pc y.1 end.may end.moved (subst (Within p site.behind pc) (sym end.whole) w) have.1 off x.1 tt
-      waits (set_codes n z v c known homes standing (effects (waiting_words homes.waiting) regs) d) good.1)
+      waits (set_codes n z v c known homes standing (begins homes regs) d) good.1)
   direct_follows (Leave exit ∷ program) homes lines known standing regs pc e w have reads off walked waits d sized good =
       let end = ends_with site codes (Leave exit) program homes lines None exit refl e in
       subst (λ (ls : List Line). Follows (Leave exit ∷ program) ls standing regs pc) end.whole
@@ -490,14 +503,14 @@ module _ (p : Placement) (site : Site) (codes : List AlphaInstr) (setting : Sett
       let same = same_Some made r.step r.is in
       let onward = subst (λ (step : Homes × List Line). direct_lines site codes step.0 program ≡ Some r.rest) (sym same) r.onward in
       let some = direct_some site codes program (settled homes) r.rest onward in
-      reach_front homes front r.rest lines regs pc (tree (ends p) (Course_of (Probe place count write ∷ program) standing)) (ap (λ (step : Homes × List Line). (map plain (waiting_words homes.waiting) ++ step.1) ++ r.rest) same ∙ r.whole) waits some w
+      reach_front homes front r.rest lines regs pc (tree (ends p) (Course_of (Probe place count write ∷ program) standing)) (ap (λ (step : Homes × List Line). (map plain (all_waiting homes) ++ step.1) ++ r.rest) same ∙ r.whole) waits some w
       (λ w'.
-      let at = pc + length (waiting_words homes.waiting) in
+      let at = pc + length (all_waiting homes) in
       let w1 = next p site.behind at (copy (stands homes place) 27) None (marked (Pal 0x80) (probing site count write) ∷ r.rest) w' in
       let w2 = subst (λ q. Within p site.behind q r.rest) (two_words at) (next p site.behind (at + 1) (Pal 0x80) (Some (probing site count write)) r.rest w1) in
       roomy p None (2 + length r.rest) (length (front ++ r.rest)) _ _ (omega arith)
-      (direct_checks p site (ends p) (length r.rest) (pc + length (waiting_words homes.waiting)) place count write r.rest known homes standing (effects (waiting_words homes.waiting) regs) (Course_of program standing) w' some x.0 have.0.0 have.0.1 d
-      (λ g ok d'. direct_follows program (settled homes) r.rest behind standing g (pc + length (waiting_words homes.waiting) + 2) onward w2 have.1 (later_flags (Probe place count write) program reads) off x.1 refl d' (later_sized (Probe place count write) program sized) (good.0 ok, good.1))))
+      (direct_checks p site (ends p) (length r.rest) (pc + length (all_waiting homes)) place count write r.rest known homes standing (begins homes regs) (Course_of program standing) w' some x.0 have.0.0 have.0.1 d
+      (λ g ok d'. direct_follows program (settled homes) r.rest behind standing g (pc + length (all_waiting homes) + 2) onward w2 have.1 (later_flags (Probe place count write) program reads) off x.1 (refl, refl) d' (later_sized (Probe place count write) program sized) (good.0 ok, good.1))))
   direct_follows (Refuse when ∷ program) homes lines known standing regs pc e w have reads off walked waits d sized good = absurd (cc e)
   direct_follows (Read to place count ∷ program) homes lines known standing regs pc e w have reads off walked waits d sized good =
       let behind = behind_access (behind_write to (holding_of (nat_le count 4)) known) in
@@ -512,17 +525,18 @@ module _ (p : Placement) (site : Site) (codes : List AlphaInstr) (setting : Sett
       let some = direct_some site codes program homes' r.rest onward in
       let size = count_some have.0.2 in
       let quiet = waits_same to (read_home to count) (settled homes) in
-      reach_front homes (map plain words) r.rest lines regs pc (tree (ends p) (Course_of (Read to place count ∷ program) standing)) (ap (λ (step : Homes × List Line). (map plain (waiting_words homes.waiting) ++ step.1) ++ r.rest) found.1 ∙ r.whole) waits some w
+      reach_front homes (map plain words) r.rest lines regs pc (tree (ends p) (Course_of (Read to place count ∷ program) standing)) (ap (λ (step : Homes × List Line). (map plain (all_waiting homes) ++ step.1) ++ r.rest) found.1 ∙ r.whole) waits some w
       (λ w'.
-      let at = pc + length (waiting_words homes.waiting) in
+      let at = pc + length (all_waiting homes) in
       let length_is = row_length p site.behind (reading site.byte_word homes to place count) r.rest in
       roomy p None (length (reading site.byte_word homes to place count) + length r.rest) (length (map plain (reading site.byte_word homes to place count) ++ r.rest)) _ _ (omega arith)
-      (direct_reads p site setting.pages setting.bytes setting.kinds (ends p) (length r.rest) (pc + length (waiting_words homes.waiting)) to place count r.rest known homes standing (effects (waiting_words homes.waiting) regs) (λ value. Course_of program (with_value to value standing)) w' some x.0 have.0.0 have.0.1 have.0.2 found.0 d
+      (direct_reads p site setting.pages setting.bytes setting.kinds (ends p) (length r.rest) (pc + length (all_waiting homes)) to place count r.rest known homes standing (begins homes regs) (λ value. Course_of program (with_value to value standing)) w' some x.0 have.0.0 have.0.1 have.0.2 found.0 d
       (λ value g fits d'.
       let good' = read_value Good opens (standing.temps place) count value (λ value. Course_of program (with_value to value standing)) size.0 size.1 fits good in
-      direct_follows program homes' r.rest behind (with_value to value standing) g (pc + length (waiting_words homes.waiting) + length (reading site.byte_word homes to place count)) onward (row_rest p site.behind at words r.rest w') have.1 (later_flags (Read to place count) program reads) off' x.1
-      (subst (λ (o : Option AlphaInstr). list_all is_operate (waiting_words o) ≡ true) (sym quiet) refl)
-      (subst (λ (o : Option AlphaInstr). Direct p site behind homes' (with_value to value standing) (effects (waiting_words o) g)) (sym quiet) d') (later_sized (Read to place count) program sized) good')))
+      direct_follows program homes' r.rest behind (with_value to value standing) g (pc + length (all_waiting homes) + length (reading site.byte_word homes to place count)) onward (row_rest p site.behind at words r.rest w') have.1 (later_flags (Read to place count) program reads) off' x.1
+      (subst (λ (o : Option AlphaInstr). list_all is_operate (waiting_words o) ≡ true) (sym quiet.0) refl, subst (λ (o : Option AlphaInstr). list_all is_operate (waiting_words o) ≡ true) (sym quiet.1) refl)
+      (subst (λ (o : Option AlphaInstr). Direct p site behind homes' (with_value to value standing) (effects (waiting_words homes'.waiting) (effects (waiting_words o) g))) (sym quiet.0)
+      (subst (λ (o : Option AlphaInstr). Direct p site behind homes' (with_value to value standing) (effects (waiting_words o) g)) (sym quiet.1) d')) (later_sized (Read to place count) program sized) good')))
   direct_follows (Write place count source ∷ program) homes lines known standing regs pc e w have reads off walked waits d sized good =
       let x = walk_fits (write_fits known place count source) (behind_access known) (λ behind. walk site.sources behind program) (opened site.sources known (Write place count source) program off walked) in
       let r = reaching site codes homes (Write place count source) program lines e in
@@ -532,15 +546,15 @@ module _ (p : Placement) (site : Site) (codes : List AlphaInstr) (setting : Sett
       let onward = subst (λ (step : Homes × List Line). direct_lines site codes step.0 program ≡ Some r.rest) (sym found.1) r.onward in
       let some = direct_some site codes program (settled homes) r.rest onward in
       let good' = write_done Good opens (parts (standing.temps place) count) (standing.temps source) (Course_of program standing) good in
-      reach_front homes (map plain words) r.rest lines regs pc (tree (ends p) (Course_of (Write place count source ∷ program) standing)) (ap (λ (step : Homes × List Line). (map plain (waiting_words homes.waiting) ++ step.1) ++ r.rest) found.1 ∙ r.whole) waits some w
+      reach_front homes (map plain words) r.rest lines regs pc (tree (ends p) (Course_of (Write place count source ∷ program) standing)) (ap (λ (step : Homes × List Line). (map plain (all_waiting homes) ++ step.1) ++ r.rest) found.1 ∙ r.whole) waits some w
       (λ w'.
-      let at = pc + length (waiting_words homes.waiting) in
+      let at = pc + length (all_waiting homes) in
       let length_is = row_length p site.behind (write_by site.byte_word (stands homes place) count (stands homes source)) r.rest in
       roomy p None (length (write_by site.byte_word (stands homes place) count (stands homes source)) + length r.rest) (length (map plain (write_by site.byte_word (stands homes place) count (stands homes source)) ++ r.rest)) _ _ (omega arith)
-      (direct_writes p site setting.pages setting.bytes setting.kinds (ends p) (length r.rest) (pc + length (waiting_words homes.waiting)) place count source r.rest known homes standing (effects (waiting_words homes.waiting) regs) (Course_of program standing) w' some x.0 have.0.0 have.0.1 have.0.2
+      (direct_writes p site setting.pages setting.bytes setting.kinds (ends p) (length r.rest) (pc + length (all_waiting homes)) place count source r.rest known homes standing (begins homes regs) (Course_of program standing) w' some x.0 have.0.0 have.0.1 have.0.2
       (eqb-true count setting.bytes (and_parts (count == setting.bytes) (list_all (has_bytes setting.bytes) program) sized).0) found.0 d
       (λ g d'.
-      direct_follows program (settled homes) r.rest (behind_access known) standing g (pc + length (waiting_words homes.waiting) + length (write_by site.byte_word (stands homes place) count (stands homes source))) onward (row_rest p site.behind at words r.rest w') have.1 (later_flags (Write place count source) program reads) off x.1
-      refl d' (later_sized (Write place count source) program sized) good')))
+      direct_follows program (settled homes) r.rest (behind_access known) standing g (pc + length (all_waiting homes) + length (write_by site.byte_word (stands homes place) count (stands homes source))) onward (row_rest p site.behind at words r.rest w') have.1 (later_flags (Write place count source) program reads) off x.1
+      (refl, refl) d' (later_sized (Write place count source) program sized) good')))
   direct_follows (Locked to place kind source ∷ program) homes lines known standing regs pc e w have reads off walked waits d sized good = absurd (cc e)
   direct_follows (SetPsw source ∷ program) homes lines known standing regs pc e w have reads off walked waits d sized good = absurd (cc e)

@@ -5,8 +5,8 @@ use Rattle.std.specs.List.{list_all, list_any}
 use Rattle.std.proofs.lemmas.Bool.Decides.{nat_tests}
 use Rattle.std.proofs.lemmas.Bool.{ltb-true, and_from, and_parts}
 use Rattle.std.proofs.lemmas.List.{append-nil}
-use Rattle.std.proofs.lemmas.List.Elements.{All-nil}
-use Rattle.std.proofs.lemmas.List.Folds.{list_any-append}
+use Rattle.std.proofs.lemmas.List.Elements.{All-nil, All-append}
+use Rattle.std.proofs.lemmas.List.Folds.{list_any-append, list_all-append}
 use Rattle.std.proofs.lemmas.Option.{same_Some}
 use Rattle.vax_form.specs.declared.instr.Size.{Size}
 use Rattle.vax_form.specs.declared.instr.Size.TheVariants.{Byte, Word, Long, Quad}
@@ -47,20 +47,20 @@ use Rattle.program_codegen.proofs.HomeFronts.{probe_front, read_front, write_fro
 use Rattle.program_codegen.specs.declared.homes.Homes.{Homes}
 use Rattle.program_codegen.specs.declared.lines.Line.{Line}
 use Rattle.program_codegen.specs.declared.points.Site.{Site}
-use Rattle.program_codegen.specs.Homes.{AreHomes, IsHome, are_short_rules, code_by, commit_stays, compared, comparison, copied, direct_code, direct_lines, direct_step, end_lines, exit_behind, exit_stays, extended_first, extended_second, home_by, home_of, is_copying, is_shared, long_operation, made, may_end, moved_words, new_home, placed, standing_in, with_home, end_words, step_by, waiting_words, choice_lines, next_exit, tested_at, tested_exit, is_short_constant, made_size, needed_words, is_extended, may_write, read_home, reading, settled, stands}
+use Rattle.program_codegen.specs.Homes.{AreHomes, IsHome, are_short_rules, code_by, commit_stays, compared, comparison, copied, direct_code, direct_lines, direct_step, end_lines, exit_behind, exit_stays, extended_first, extended_second, home_by, home_of, is_copying, is_shared, long_operation, made, may_end, moved_words, new_home, placed, standing_in, with_home, end_words, step_by, waiting_words, choice_lines, next_exit, tested_at, tested_exit, is_short_constant, made_size, needed_words, is_extended, may_write, read_home, reading, settled, stands, all_waiting}
 use Rattle.program_codegen.specs.Programs.{AllHaveWords, IsExit}
 use Rattle.program_codegen.specs.Words.{departing, exit_lines, plain, trap_lines, words_of, copy, marked, probing, write_by}
 use Rattle.program_codegen.proofs.Coded.{fine_operates}
 use Rattle.program_codegen.proofs.Endings.{above_codes, codes_local, codes_quiet, departing_each, departing_goes, departing_short, departing_spares, one_word, or_nothing, traps_silent}
 use Rattle.program_codegen.proofs.Following.{opened}
 use Rattle.program_codegen.proofs.Fronts.{Shape, any_neither, quiet_kept, row_targets, row_words_are, silent_front, spares_append, targets, targets_append, words_append, free_front}
-use Rattle.program_codegen.proofs.HomeComputing.{compared_word, made_word, no_quad, Joined, Literally, copying, made_operates}
+use Rattle.program_codegen.proofs.HomeComputing.{compared_word, made_word, no_quad, Joined, Literally, copying, made_operates, compared_operates}
 use Rattle.program_codegen.proofs.HomeFollowing.{Stepped, ends_with, stepped, with_exit, row_apart, waits_same, reaching, where_false, where_true}
 use Rattle.program_codegen.proofs.HomeSomes.{chained, first_is, mapped}
 use Rattle.program_codegen.proofs.HomeTesting.{Tested, facts, tested}
 use Rattle.program_codegen.proofs.HomeHolding.{copied_home, extended_home, home_is, homes_are, placed_is}
 use Rattle.program_codegen.proofs.HomeShapes.{moved_encodable, moved_fine, moved_length, moved_writes}
-use Rattle.program_codegen.proofs.HomeSparing.{IsNumbered, Waiting, commit_count, end_operates, end_row}
+use Rattle.program_codegen.proofs.HomeSparing.{IsNumbered, Quiet, Waiting, commit_count, end_operates, end_row, nothing_waits, waiting_count}
 use Rattle.program_codegen.proofs.Knowing.{nothing_behind, walk_fits, write_changes}
 use Rattle.program_codegen.proofs.Numbers.{all_three}
 use Rattle.program_codegen.proofs.Rows.{branch_encodable, changes_silent, is_silent, list_all_of}
@@ -210,16 +210,16 @@ module _ (homes : Homes) (are : AreHomes homes) where
       by (Some r) e q f u h = record { encodable = All-nil IsEncodable; silent = refl; few = omega arith }
       by None e (Some word) f u h = of (made_word homes to op size a b word f)
         where
-          some_words : (op : MicroOp) (size : Size) → is_copying op size ≡ true → 1 ≤ operation_words op size
-          some_words op size copies = moved (copying op size copies).0 (copying op size copies).1
-            where
-              moved : is_moved op ≡ true → size ≡ Long → 1 ≤ operation_words op size
-              moved is long = subst (λ size. 1 ≤ operation_words op size) (sym long) (at op is)
-                where
-                  at : (op : MicroOp) → is_moved op ≡ true → 1 ≤ operation_words op Long
-                  at Move is = lit≤ tt
-                  at ZeroExtend is = lit≤ tt
-                  at op is = absurd (cc is)
+          some_words : (op : MicroOp) (size : Size) → is_moved op ≡ true → 1 ≤ operation_words op size
+          some_words Move Byte is = lit≤ tt
+          some_words Move Word is = lit≤ tt
+          some_words Move Long is = lit≤ tt
+          some_words Move Quad is = lit≤ tt
+          some_words ZeroExtend Byte is = lit≤ tt
+          some_words ZeroExtend Word is = lit≤ tt
+          some_words ZeroExtend Long is = lit≤ tt
+          some_words ZeroExtend Quad is = lit≤ tt
+          some_words op size is = absurd (cc is)
 
           of : Literally to op size a word ⊎ ((to ≡ 2) × (made_size op size ≡ Long) × Joined homes (long_operation op) a b 23 word) → Words (count_of (Compute to op size a b)) (word ∷ [])
           of (inl c) =
@@ -300,30 +300,30 @@ module _ (site : Site) (codes : List AlphaInstr) (after_fits : site.after < 2 ^ 
   anything is e = list_all_of is_operate (fine (λ n. true)) (λ i e. and_from (is_operate i) true e refl) is e
 
   end_shape : (homes : Homes) → AreHomes homes → Waiting homes → (commit : Option (ℕ × ℕ)) (exit : Exit) (words : List AlphaInstr) (changed : Bool) → moved_words homes codes ≡ Some words → may_end site homes commit exit ≡ true → IsNumbered commit → IsExit exit
-      → Shape site changed codes (exit_addresses site.after exit) (59 + commit_count commit + length (waiting_words homes.waiting)) (end_lines site homes commit exit words)
+      → Shape site changed codes (exit_addresses site.after exit) (59 + commit_count commit + waiting_count homes) (end_lines site homes commit exit words)
   end_shape homes are waits commit exit words changed moved may numbered is =
       let x = all_three (commit_stays commit) (exit_stays homes exit) (are_short_rules site.behind) may in
       let rest = trap_lines site exit ++ departing site exit in
-      let row = end_words homes.waiting homes commit exit words in
+      let row = end_words homes commit exit words in
       let behind = leaving_shape homes exit is x.1 in
       let fine_words = moved_fine homes are (may_be_written site.sources) codes words moved only in
       let operate = fine_operates (may_be_written site.sources) words fine_words in
-      let any = anything (end_words homes.waiting homes commit exit words) (end_operates homes commit exit words waits.operate operate) in
+      let any = anything (end_words homes commit exit words) (end_operates homes commit exit words waits.before.operate waits.last.operate operate) in
       let s = end_row homes are waits commit exit words x.0 numbered (moved_encodable homes are codes words moved encodable) operate in
-      let size = length-append (map plain (end_words homes.waiting homes commit exit words)) rest in
-      let count = plain_length (end_words homes.waiting homes commit exit words) in
+      let size = length-append (map plain (end_words homes commit exit words)) rest in
+      let count = plain_length (end_words homes commit exit words) in
       let same = moved_length homes are codes words moved in
       let short = behind.short in
       let most = s.few in
       record {
-        each = each_append site 0 (map plain (end_words homes.waiting homes commit exit words)) rest (row_fits site (end_words homes.waiting homes commit exit words) s.encodable (list_all_of (fine (λ n. true)) is_local (codes_local (λ n. true)) (end_words homes.waiting homes commit exit words) any)) behind.each;
-        kept = quiet_kept changed (words_of (map plain (end_words homes.waiting homes commit exit words) ++ rest)) (any_neither may_fault (map plain (end_words homes.waiting homes commit exit words)) rest (ap (list_any may_fault) (row_words_are (end_words homes.waiting homes commit exit words)) ∙ codes_quiet (λ n. true) (end_words homes.waiting homes commit exit words) any) behind.kept);
-        goes = targets_append (map plain (end_words homes.waiting homes commit exit words)) rest ∙ (ap (λ xs. xs ++ targets rest) (row_targets (end_words homes.waiting homes commit exit words)) ∙ behind.goes);
+        each = each_append site 0 (map plain (end_words homes commit exit words)) rest (row_fits site (end_words homes commit exit words) s.encodable (list_all_of (fine (λ n. true)) is_local (codes_local (λ n. true)) (end_words homes commit exit words) any)) behind.each;
+        kept = quiet_kept changed (words_of (map plain (end_words homes commit exit words) ++ rest)) (any_neither may_fault (map plain (end_words homes commit exit words)) rest (ap (list_any may_fault) (row_words_are (end_words homes commit exit words)) ∙ codes_quiet (λ n. true) (end_words homes commit exit words) any) behind.kept);
+        goes = targets_append (map plain (end_words homes commit exit words)) rest ∙ (ap (λ xs. xs ++ targets rest) (row_targets (end_words homes commit exit words)) ∙ behind.goes);
         writes = λ r low high.
-            ap (writes_register r) (words_append (map plain (end_words homes.waiting homes commit exit words)) rest)
-            ∙ (list_any-append (λ i. register_written i == r) (words_of (map plain (end_words homes.waiting homes commit exit words))) (words_of rest)
-            ∙ (ap (λ xs. writes_register r xs || writes_register r (words_of rest)) (row_words_are (end_words homes.waiting homes commit exit words))
-            ∙ (ap (λ b. writes_register r (end_words homes.waiting homes commit exit words) || b) (behind.writes r low high) ∙ (or_nothing (writes_register r (end_words homes.waiting homes commit exit words)) ∙ (s.writes r low high ∙ moved_writes homes are r high codes words moved)))));
+            ap (writes_register r) (words_append (map plain (end_words homes commit exit words)) rest)
+            ∙ (list_any-append (λ i. register_written i == r) (words_of (map plain (end_words homes commit exit words))) (words_of rest)
+            ∙ (ap (λ xs. writes_register r xs || writes_register r (words_of rest)) (row_words_are (end_words homes commit exit words))
+            ∙ (ap (λ b. writes_register r (end_words homes commit exit words) || b) (behind.writes r low high) ∙ (or_nothing (writes_register r (end_words homes commit exit words)) ∙ (s.writes r low high ∙ moved_writes homes are r high codes words moved)))));
         short = omega arith;
       }
 
@@ -331,7 +331,7 @@ module _ (site : Site) (codes : List AlphaInstr) (after_fits : site.after < 2 ^ 
   ending_shape : (program : List Micro) (homes : Homes) → AreHomes homes → Waiting homes → (commit : Option (ℕ × ℕ)) (exit : Exit) (words : List AlphaInstr) (changed : Bool) (known : Known)
       → exit_behind site.sources program ≡ Some exit → moved_words homes codes ≡ Some words → may_end site homes commit exit ≡ true → IsNumbered commit
       → AllHaveWords site.sources program → known.ended ≡ false → is_ended (walk site.sources known program) ≡ true
-      → Shape site changed codes (addresses_of site.after program) (59 + commit_count commit + length (waiting_words homes.waiting)) (end_lines site homes commit exit words)
+      → Shape site changed codes (addresses_of site.after program) (59 + commit_count commit + waiting_count homes) (end_lines site homes commit exit words)
   unfolding step
   ending_shape [] homes are waits commit exit words changed known e moved may numbered have off walked = absurd (cc e)
   ending_shape (Compute to op size a b ∷ program) homes are waits commit exit words changed known e moved may numbered have off walked =
@@ -349,9 +349,9 @@ module _ (site : Site) (codes : List AlphaInstr) (after_fits : site.after < 2 ^ 
       let x = walk_fits (exit_fits known leave && sources_fit site.sources known) (record known { ended = true }) (λ behind. walk site.sources behind program) (opened site.sources known (Leave leave) program off walked) in
       let none = nothing_behind site.sources (record known { ended = true }) program refl x.1 in
       let same = same_Some leave exit e in
-      subst (λ (rest : List Micro). Shape site changed codes (addresses_of site.after (Leave leave ∷ rest)) (59 + commit_count commit + length (waiting_words homes.waiting)) (end_lines site homes commit exit words)) (sym none)
-      (subst (λ (exit' : Exit). Shape site changed codes (exit_addresses site.after leave ++ []) (59 + commit_count commit + length (waiting_words homes.waiting)) (end_lines site homes commit exit' words)) same
-      (subst (λ addresses. Shape site changed codes addresses (59 + commit_count commit + length (waiting_words homes.waiting)) (end_lines site homes commit leave words)) (sym (append-nil (exit_addresses site.after leave)))
+      subst (λ (rest : List Micro). Shape site changed codes (addresses_of site.after (Leave leave ∷ rest)) (59 + commit_count commit + waiting_count homes) (end_lines site homes commit exit words)) (sym none)
+      (subst (λ (exit' : Exit). Shape site changed codes (exit_addresses site.after leave ++ []) (59 + commit_count commit + waiting_count homes) (end_lines site homes commit exit' words)) same
+      (subst (λ addresses. Shape site changed codes addresses (59 + commit_count commit + waiting_count homes) (end_lines site homes commit leave words)) (sym (append-nil (exit_addresses site.after leave)))
       (end_shape homes are waits commit leave words changed moved (subst (λ (exit' : Exit). may_end site homes commit exit' ≡ true) (sym same) may) numbered have.0)))
   ending_shape (Probe place count write ∷ program) homes are waits commit exit words changed known e moved may numbered have off walked = absurd (cc e)
   ending_shape (Refuse when ∷ program) homes are waits commit exit words changed known e moved may numbered have off walked = absurd (cc e)
@@ -363,7 +363,7 @@ module _ (site : Site) (codes : List AlphaInstr) (after_fits : site.after < 2 ^ 
 
   -- ---- the program
   abbrev ShapeOf : Bool → Homes → List Micro → List Line → Type 0
-  ShapeOf changed homes program lines = Shape site changed codes (addresses_of site.after program) (program_words site.sources program + 59 + length (waiting_words homes.waiting)) lines
+  ShapeOf changed homes program lines = Shape site changed codes (addresses_of site.after program) (program_words site.sources program + 59 + waiting_count homes) lines
 
   weaker : (changed : Bool) (addresses : List ℕ) (n m : ℕ) (lines : List Line) → n ≤ m → Shape site changed codes addresses n lines → Shape site changed codes addresses m lines
   weaker changed addresses n m lines le shape = let short = shape.short in record { each = shape.each; kept = shape.kept; goes = shape.goes; writes = shape.writes; short = omega arith }
@@ -381,14 +381,23 @@ module _ (site : Site) (codes : List AlphaInstr) (after_fits : site.after < 2 ^ 
     short = lit≤ tt;
   }
 
-  -- the word that waits, a reference, and the rest
+  -- the words that wait
+  all_quiet : (o u : Option AlphaInstr) → Quiet o → Quiet u → All IsEncodable (waiting_words o ++ waiting_words u) × (list_all is_silent (waiting_words o ++ waiting_words u) ≡ true)
+  all_quiet o u first last = (
+    All-append IsEncodable (waiting_words o) (waiting_words u) first.encodable last.encodable,
+    list_all-append is_silent (waiting_words o) (waiting_words u) ∙ (ap (λ b. b && list_all is_silent (waiting_words u)) first.silent ∙ last.silent),
+  )
+
+  -- those, a reference, and the rest
   reach_shape : (homes : Homes) → Waiting homes → (changed : Bool) → changed ≡ false → (n most : ℕ) (addresses : List ℕ) (front rest lines : List Line)
-      → (map plain (waiting_words homes.waiting) ++ front) ++ rest ≡ lines → Faulting site n front → Shape site changed codes addresses most rest
-      → Shape site changed codes addresses (n + most + length (waiting_words homes.waiting)) lines
+      → (map plain (all_waiting homes) ++ front) ++ rest ≡ lines → Faulting site n front → Shape site changed codes addresses most rest
+      → Shape site changed codes addresses (n + most + waiting_count homes) lines
   reach_shape homes waits changed same_state n most addresses front rest lines whole f shape =
-      let count = plain_length (waiting_words homes.waiting) in
-      subst (Shape site changed codes addresses (n + most + length (waiting_words homes.waiting))) (sym (append_assoc (map plain (waiting_words homes.waiting)) front rest) ∙ whole)
-      (silent_front site codes addresses changed (length (waiting_words homes.waiting)) (n + most) _ (waiting_words homes.waiting) (front ++ rest) waits.encodable waits.silent (omega arith) (omega arith)
+      let both = all_quiet homes.before homes.waiting waits.before waits.last in
+      let count = plain_length (all_waiting homes) in
+      let all = length-append (waiting_words homes.before) (waiting_words homes.waiting) in
+      subst (Shape site changed codes addresses (n + most + waiting_count homes)) (sym (append_assoc (map plain (all_waiting homes)) front rest) ∙ whole)
+      (silent_front site codes addresses changed (length (all_waiting homes)) (n + most) _ (all_waiting homes) (front ++ rest) both.0 both.1 (omega arith) (omega arith)
       (free_front site codes addresses changed n most _ front rest same_state f.0 f.1 f.2 (omega arith) shape))
 
   place_small : (homes : Homes) → AreHomes homes → (place : ℕ) → place < 6 → stands homes place < 32
@@ -418,66 +427,75 @@ module _ (site : Site) (codes : List AlphaInstr) (after_fits : site.after < 2 ^ 
       homes_then : Homes
       homes_then = with_home to (new_home homes to op size a b) homes
 
-      same_waits : (with_home to (new_home homes to op size a b) homes).waiting ≡ homes.waiting
+      same_waits : ((with_home to (new_home homes to op size a b) homes).before ≡ homes.before) × ((with_home to (new_home homes to op size a b) homes).waiting ≡ homes.waiting)
       same_waits = waits_same to (new_home homes to op size a b) homes
+
+      -- a word that waits, behind the one before it
+      waits_on : (rest : List Line) → ((homes' : Homes) → AreHomes homes' → Waiting homes' → direct_lines site codes homes' program ≡ Some rest → ShapeOf changed homes' program rest)
+          → AreHomes homes_then → (word : AlphaInstr) → Words homes are (count_of (Compute to op size a b)) (word ∷ []) → is_operate word ≡ true
+          → direct_lines site codes (record homes_then { before = homes.waiting; waiting = Some word }) program ≡ Some rest
+          → Shape site changed codes (addresses_of site.after program) (count_of (Compute to op size a b) + program_words site.sources program + 59 + waiting_count homes) (map plain (waiting_words homes.before) ++ rest)
+      waits_on rest shape are' word w operate is =
+          let quiet : Quiet (Some word) = record { encodable = w.encodable; silent = w.silent; operate = ap (λ c. c && true) operate } in
+          let behind = shape (record homes_then { before = homes.waiting; waiting = Some word }) (are'.0, are'.1, are'.2) (record { before = waits.last; last = quiet }) is in
+          let most = w.few in
+          let count = plain_length (waiting_words homes.before) in
+          silent_front site codes (addresses_of site.after program) changed (length (waiting_words homes.before)) (program_words site.sources program + 59 + (length (waiting_words homes.waiting) + 1)) _ (waiting_words homes.before) rest
+          waits.before.encodable waits.before.silent (omega arith) (omega arith) behind
 
       by_words : (rest : List Line) → ((homes' : Homes) → AreHomes homes' → Waiting homes' → direct_lines site codes homes' program ≡ Some rest → ShapeOf changed homes' program rest)
           → AreHomes homes_then → (target : IsTarget (21 + to)) → IsArgument a → (is_unary op ≡ false → IsArgument b) → (not (is_quad size) || is_some (made homes to op size a b)) ≡ true
-          → (o : Option ℕ) → copied homes to op size a ≡ o → (q : Option AlphaInstr) → made homes to op size a b ≡ q
-          → direct_lines site codes (step_by o q homes.waiting homes_then (direct_code homes to op size a b)).0 program ≡ Some rest
-          → Shape site changed codes (addresses_of site.after program) (count_of (Compute to op size a b) + program_words site.sources program + 59 + length (waiting_words homes.waiting)) (map plain (step_by o q homes.waiting homes_then (direct_code homes to op size a b)).1 ++ rest)
-      by_words rest shape are' target a_is b_is either (Some r) e q f is =
-          let waiting : Waiting homes_then = record {
-            encodable = subst (λ (o : Option AlphaInstr). All IsEncodable (waiting_words o)) (sym same_waits) waits.encodable;
-            silent = subst (λ (o : Option AlphaInstr). list_all is_silent (waiting_words o) ≡ true) (sym same_waits) waits.silent;
-            operate = subst (λ (o : Option AlphaInstr). list_all is_operate (waiting_words o) ≡ true) (sym same_waits) waits.operate;
-          } in
+          → (o : Option ℕ) → copied homes to op size a ≡ o → (q : Option AlphaInstr) → made homes to op size a b ≡ q → (u : Option AlphaInstr) → compared homes to op size a b ≡ u
+          → direct_lines site codes (step_by o q u homes.before homes.waiting homes_then (direct_code homes to op size a b)).0 program ≡ Some rest
+          → Shape site changed codes (addresses_of site.after program) (count_of (Compute to op size a b) + program_words site.sources program + 59 + waiting_count homes) (map plain (step_by o q u homes.before homes.waiting homes_then (direct_code homes to op size a b)).1 ++ rest)
+      by_words rest shape are' target a_is b_is either (Some r) e q f u h is =
+          let waiting : Waiting homes_then = record { before = subst Quiet (sym same_waits.0) waits.before; last = subst Quiet (sym same_waits.1) waits.last } in
           let behind = shape homes_then are' waiting is in
           let short = behind.short in
-          let same = ap (λ (o : Option AlphaInstr). length (waiting_words o)) same_waits in
+          let first = ap (λ (o : Option AlphaInstr). length (waiting_words o)) same_waits.0 in
+          let second = ap (λ (o : Option AlphaInstr). length (waiting_words o)) same_waits.1 in
           record { each = behind.each; kept = behind.kept; goes = behind.goes; writes = behind.writes; short = omega arith }
-      by_words rest shape are' target a_is b_is either None e (Some word) f is =
+      by_words rest shape are' target a_is b_is either None e (Some word) f u h is =
           let w = direct_words homes are to op size a b target a_is b_is either in
           let code : direct_code homes to op size a b ≡ word ∷ [] = ap (λ (o : Option ℕ). code_by o (made homes to op size a b) (compared homes to op size a b) (compute_code op size (placed homes a) (placed homes b) (21 + to))) e
           ∙ ap (λ (o : Option AlphaInstr). code_by None o (compared homes to op size a b) (compute_code op size (placed homes a) (placed homes b) (21 + to))) f in
-          let operate = made_operates homes to op size a b word f in
-          let waiting : Waiting (record homes_then { waiting = Some word }) = record {
-            encodable = subst (All IsEncodable) code w.encodable;
-            silent = subst (λ words. list_all is_silent words ≡ true) code w.silent;
-            operate = ap (λ c. c && true) operate;
-          } in
-          let behind = shape (record homes_then { waiting = Some word }) (are'.0, are'.1, are'.2) waiting is in
-          let one = ap (λ (words : List AlphaInstr). length words) code in
-          let most = w.few in
-          let count = plain_length (waiting_words homes.waiting) in
-          silent_front site codes (addresses_of site.after program) changed (length (waiting_words homes.waiting)) (program_words site.sources program + 59 + 1) _ (waiting_words homes.waiting) rest
-          waits.encodable waits.silent (omega arith) (omega arith) behind
-      by_words rest shape are' target a_is b_is either None e None f is =
+          waits_on rest shape are' word (subst (Words homes are (count_of (Compute to op size a b))) code w) (made_operates homes to op size a b word f) is
+      by_words rest shape are' target a_is b_is either None e None f (Some word) h is =
           let w = direct_words homes are to op size a b target a_is b_is either in
-          let behind = shape (record homes_then { waiting = None }) (are'.0, are'.1, are'.2) (record { encodable = All-nil IsEncodable; silent = refl; operate = refl }) is in
+          let code : direct_code homes to op size a b ≡ word ∷ [] = ap (λ (o : Option ℕ). code_by o (made homes to op size a b) (compared homes to op size a b) (compute_code op size (placed homes a) (placed homes b) (21 + to))) e
+          ∙ (ap (λ (o : Option AlphaInstr). code_by None o (compared homes to op size a b) (compute_code op size (placed homes a) (placed homes b) (21 + to))) f
+          ∙ ap (λ (o : Option AlphaInstr). code_by None None o (compute_code op size (placed homes a) (placed homes b) (21 + to))) h) in
+          waits_on rest shape are' word (subst (Words homes are (count_of (Compute to op size a b))) code w) (compared_operates homes to op size a b word h) is
+      by_words rest shape are' target a_is b_is either None e None f None h is =
+          let w = direct_words homes are to op size a b target a_is b_is either in
+          let behind = shape (record homes_then { before = None; waiting = None }) (are'.0, are'.1, are'.2) (record { before = nothing_waits; last = nothing_waits }) is in
           let most = w.few in
-          let count = plain_length (waiting_words homes.waiting) in
+          let count = plain_length (waiting_words homes.before) in
+          let counts = plain_length (waiting_words homes.waiting) in
           let more = plain_length (direct_code homes to op size a b) in
-          subst (Shape site changed codes (addresses_of site.after program) (count_of (Compute to op size a b) + program_words site.sources program + 59 + length (waiting_words homes.waiting))) (sym (row_apart (waiting_words homes.waiting) (direct_code homes to op size a b) rest))
+          subst (Shape site changed codes (addresses_of site.after program) (count_of (Compute to op size a b) + program_words site.sources program + 59 + waiting_count homes))
+          (sym (row_apart (waiting_words homes.before) (waiting_words homes.waiting ++ direct_code homes to op size a b) rest ∙ ap (λ (lines : List Line). map plain (waiting_words homes.before) ++ lines) (row_apart (waiting_words homes.waiting) (direct_code homes to op size a b) rest)))
+          (silent_front site codes (addresses_of site.after program) changed (length (waiting_words homes.before)) (length (waiting_words homes.waiting) + (count_of (Compute to op size a b) + (program_words site.sources program + 59 + 0))) _ (waiting_words homes.before) (map plain (waiting_words homes.waiting) ++ (map plain (direct_code homes to op size a b) ++ rest))
+          waits.before.encodable waits.before.silent (omega arith) (omega arith)
           (silent_front site codes (addresses_of site.after program) changed (length (waiting_words homes.waiting)) (count_of (Compute to op size a b) + (program_words site.sources program + 59 + 0)) _ (waiting_words homes.waiting) (map plain (direct_code homes to op size a b) ++ rest)
-          waits.encodable waits.silent (omega arith) (omega arith)
+          waits.last.encodable waits.last.silent (omega arith) (omega arith)
           (silent_front site codes (addresses_of site.after program) changed (count_of (Compute to op size a b)) (program_words site.sources program + 59 + 0) _ (direct_code homes to op size a b) rest
-          w.encodable w.silent (omega arith) (omega arith) behind))
+          w.encodable w.silent (omega arith) (omega arith) behind)))
 
       by : (step : Homes × List AlphaInstr) (rest : List Line) → direct_lines site codes step.0 program ≡ Some rest
           → ((homes' : Homes) → AreHomes homes' → Waiting homes' → direct_lines site codes homes' program ≡ Some rest → ShapeOf changed homes' program rest)
           → (out : Bool) → is_left_out site.sources (Compute to op size a b) program ≡ out → Stepped site homes to op size a b program step out
-          → Shape site changed codes (addresses_of site.after program) ((if out then 0 else count_of (Compute to op size a b)) + program_words site.sources program + 59 + length (waiting_words homes.waiting)) (map plain step.1 ++ rest)
+          → Shape site changed codes (addresses_of site.after program) ((if out then 0 else count_of (Compute to op size a b)) + program_words site.sources program + 59 + waiting_count homes) (map plain step.1 ++ rest)
       by step rest is shape true out s =
           let behind = shape homes are waits (subst (λ (step : Homes × List AlphaInstr). direct_lines site codes step.0 program ≡ Some rest) s.is is) in
           let short = behind.short in
-          subst (λ (step : Homes × List AlphaInstr). Shape site changed codes (addresses_of site.after program) (0 + program_words site.sources program + 59 + length (waiting_words homes.waiting)) (map plain step.1 ++ rest)) (sym s.is)
+          subst (λ (step : Homes × List AlphaInstr). Shape site changed codes (addresses_of site.after program) (0 + program_words site.sources program + 59 + waiting_count homes) (map plain step.1 ++ rest)) (sym s.is)
           (record { each = behind.each; kept = behind.kept; goes = behind.goes; writes = behind.writes; short = omega arith })
       by step rest is shape false out s =
           let has = have.0 out in
           let direct = all_three (not (is_quad size) || is_some (made homes to op size a b)) (not (is_select op)) (not (is_shared homes to)) (s.direct refl) in
-          subst (λ (step : Homes × List AlphaInstr). Shape site changed codes (addresses_of site.after program) (count_of (Compute to op size a b) + program_words site.sources program + 59 + length (waiting_words homes.waiting)) (map plain step.1 ++ rest)) (sym s.is)
-          (by_words rest shape (homes_are to (new_home homes to op size a b) homes (new_home_is homes are to op size a b has.1) are) has.0 has.1 has.2 direct.0 (copied homes to op size a) refl (made homes to op size a b) refl
+          subst (λ (step : Homes × List AlphaInstr). Shape site changed codes (addresses_of site.after program) (count_of (Compute to op size a b) + program_words site.sources program + 59 + waiting_count homes) (map plain step.1 ++ rest)) (sym s.is)
+          (by_words rest shape (homes_are to (new_home homes to op size a b) homes (new_home_is homes are to op size a b has.1) are) has.0 has.1 has.2 direct.0 (copied homes to op size a) refl (made homes to op size a b) refl (compared homes to op size a b) refl
           (subst (λ (step : Homes × List AlphaInstr). direct_lines site codes step.0 program ≡ Some rest) s.is is))
 
       tested_then : (exit : Exit) (program : List Micro) → next_exit program ≡ Some exit → Tested site codes homes to op size a b exit lines → is_ended (walk site.sources (behind_write to (holding_of (leaves_longword (Compute to op size a b))) known) program) ≡ true
@@ -493,13 +511,17 @@ module _ (site : Site) (codes : List AlphaInstr) (after_fits : site.after < 2 ^ 
           let leaves : leave ≡ exits.Choice to s.chosen s.other = same_Some leave exit is ∙ s.is in
           let fits : IsExit (exits.Choice to s.chosen s.other) = subst IsExit leaves have.1.0 in
           let shape = choice_shape changed s.test s.chosen s.other s.no_codes f.unlinked (f.small (have.0 out).1) fits.1 fits.2 in
-          let count = plain_length (needed_words to s.test.1 homes.waiting) in
-          let n = still_waits homes.waiting waits.encodable waits.silent in
+          let count = plain_length (waiting_words homes.before) in
+          let counts = plain_length (needed_words to s.test.1 homes.waiting) in
+          let n = still_waits homes.waiting waits.last.encodable waits.last.silent in
           let most = n.2 in
+          let split = row_apart (waiting_words homes.before) (needed_words to s.test.1 homes.waiting) (choice_lines s.test s.chosen s.other) in
           subst (λ (rest : List Micro). ShapeOf changed homes (Compute to op size a b ∷ Leave leave ∷ rest) lines) (sym none)
           (subst (λ leave. ShapeOf changed homes (Compute to op size a b ∷ Leave leave ∷ []) lines) (sym leaves)
           (subst (λ (ls : List Line). ShapeOf changed homes (Compute to op size a b ∷ Leave (exits.Choice to s.chosen s.other) ∷ []) ls) s.whole
-          (silent_front site codes (s.chosen ∷ s.other ∷ []) changed (length (waiting_words homes.waiting)) 7 _ (needed_words to s.test.1 homes.waiting) (choice_lines s.test s.chosen s.other) n.0 n.1 (omega arith) (omega arith) shape)))
+          (subst (λ (ls : List Line). ShapeOf changed homes (Compute to op size a b ∷ Leave (exits.Choice to s.chosen s.other) ∷ []) ls) (sym split)
+          (silent_front site codes (s.chosen ∷ s.other ∷ []) changed (length (waiting_words homes.before)) (length (waiting_words homes.waiting) + 7) _ (waiting_words homes.before) (map plain (needed_words to s.test.1 homes.waiting) ++ choice_lines s.test s.chosen s.other) waits.before.encodable waits.before.silent (omega arith) (omega arith)
+          (silent_front site codes (s.chosen ∷ s.other ∷ []) changed (length (waiting_words homes.waiting)) 7 _ (needed_words to s.test.1 homes.waiting) (choice_lines s.test s.chosen s.other) n.0 n.1 (omega arith) (omega arith) shape)))))
         where
           still_waits : (o : Option AlphaInstr) → All IsEncodable (waiting_words o) → list_all is_silent (waiting_words o) ≡ true
               → All IsEncodable (needed_words to s.test.1 o) × (list_all is_silent (needed_words to s.test.1 o) ≡ true) × (length (needed_words to s.test.1 o) ≤ length (waiting_words o))
@@ -528,19 +550,19 @@ module _ (site : Site) (codes : List AlphaInstr) (after_fits : site.after < 2 ^ 
       let z = with_exit site codes (Some (number, source)) (Commit number source) program homes lines refl e in
       let end = z.2 in
       subst (λ (ls : List Line). ShapeOf changed homes (Commit number source ∷ program) ls) end.whole
-      (weaker changed (addresses_of site.after program) (60 + length (waiting_words homes.waiting)) (program_words site.sources (Commit number source ∷ program) + 59 + length (waiting_words homes.waiting)) (end_lines site homes (Some (number, source)) z.0 end.words) (omega arith)
+      (weaker changed (addresses_of site.after program) (60 + waiting_count homes) (program_words site.sources (Commit number source ∷ program) + 59 + waiting_count homes) (end_lines site homes (Some (number, source)) z.0 end.words) (omega arith)
       (ending_shape program homes are waits (Some (number, source)) z.0 end.words changed (behind_commit number known) z.1 end.moved end.may have.0.0 have.1 off x.1))
   direct_shape (Codes n z v c ∷ program) homes are waits lines changed same_state known e have off walked =
       let x = walk_fits (codes_fit known n z v c) (record known { codes = true; changed = true }) (λ behind. walk site.sources behind program) (opened site.sources known (Codes n z v c) program off walked) in
       let y = with_exit site codes None (Codes n z v c) program homes lines refl e in
       let end = y.2 in
       subst (λ (ls : List Line). ShapeOf changed homes (Codes n z v c ∷ program) ls) end.whole
-      (weaker changed (addresses_of site.after program) (59 + 0 + length (waiting_words homes.waiting)) (program_words site.sources (Codes n z v c ∷ program) + 59 + length (waiting_words homes.waiting)) (end_lines site homes None y.0 end.words) (omega arith)
+      (weaker changed (addresses_of site.after program) (59 + 0 + waiting_count homes) (program_words site.sources (Codes n z v c ∷ program) + 59 + waiting_count homes) (end_lines site homes None y.0 end.words) (omega arith)
       (ending_shape program homes are waits None y.0 end.words changed (record known { codes = true; changed = true }) y.1 end.moved end.may tt have.1 off x.1))
   direct_shape (Leave exit ∷ program) homes are waits lines changed same_state known e have off walked =
       let end = ends_with site codes (Leave exit) program homes lines None exit refl e in
       subst (λ (ls : List Line). ShapeOf changed homes (Leave exit ∷ program) ls) end.whole
-      (weaker changed (addresses_of site.after (Leave exit ∷ program)) (59 + 0 + length (waiting_words homes.waiting)) (program_words site.sources (Leave exit ∷ program) + 59 + length (waiting_words homes.waiting)) (end_lines site homes None exit end.words) (omega arith)
+      (weaker changed (addresses_of site.after (Leave exit ∷ program)) (59 + 0 + waiting_count homes) (program_words site.sources (Leave exit ∷ program) + 59 + waiting_count homes) (end_lines site homes None exit end.words) (omega arith)
       (ending_shape (Leave exit ∷ program) homes are waits None exit end.words changed known refl end.moved end.may tt have off walked))
   direct_shape (Probe place count write ∷ program) homes are waits lines changed same_state known e have off walked =
       let behind = behind_access (record known { checked = At place count write }) in
@@ -549,10 +571,10 @@ module _ (site : Site) (codes : List AlphaInstr) (after_fits : site.after < 2 ^ 
       let made : Homes × List Line = (settled homes, plain (copy (stands homes place) 27) ∷ marked (Pal 0x80) (probing site count write) ∷ []) in
       let same = same_Some made r.step r.is in
       let low = place_small homes are place have.0.0 in
-      weaker changed (addresses_of site.after program) (2 + (program_words site.sources program + 59 + 0) + length (waiting_words homes.waiting)) _ lines (omega arith)
+      weaker changed (addresses_of site.after program) (2 + (program_words site.sources program + 59 + 0) + waiting_count homes) _ lines (omega arith)
       (reach_shape homes waits changed same_state 2 (program_words site.sources program + 59 + 0) (addresses_of site.after program) (plain (copy (stands homes place) 27) ∷ marked (Pal 0x80) (probing site count write) ∷ []) r.rest lines
-      (ap (λ (step : Homes × List Line). (map plain (waiting_words homes.waiting) ++ step.1) ++ r.rest) same ∙ r.whole) (probe_front site (stands homes place) count write low)
-      (direct_shape program (settled homes) are (record { encodable = All-nil IsEncodable; silent = refl; operate = refl }) r.rest changed same_state behind (subst (λ (step : Homes × List Line). direct_lines site codes step.0 program ≡ Some r.rest) (sym same) r.onward) have.1 off x.1))
+      (ap (λ (step : Homes × List Line). (map plain (all_waiting homes) ++ step.1) ++ r.rest) same ∙ r.whole) (probe_front site (stands homes place) count write low)
+      (direct_shape program (settled homes) are (record { before = nothing_waits; last = nothing_waits }) r.rest changed same_state behind (subst (λ (step : Homes × List Line). direct_lines site codes step.0 program ≡ Some r.rest) (sym same) r.onward) have.1 off x.1))
   direct_shape (Refuse when ∷ program) homes are waits lines changed same_state known e have off walked = absurd (cc e)
   direct_shape (Read to place count ∷ program) homes are waits lines changed same_state known e have off walked =
       let behind = behind_access (behind_write to (holding_of (nat_le count 4)) known) in
@@ -563,23 +585,20 @@ module _ (site : Site) (codes : List AlphaInstr) (after_fits : site.after < 2 ^ 
       let made : Homes × List Line = (with_home to (read_home to count) (settled homes), map plain (reading site.byte_word homes to place count)) in
       let found = where_false (is_shared homes to) made r.step r.is in
       let quiet = waits_same to (read_home to count) (settled homes) in
-      let none = ap (λ (o : Option AlphaInstr). length (waiting_words o)) quiet in
-      weaker changed (addresses_of site.after program) (count_of (Read to place count) + (program_words site.sources program + 59 + length (waiting_words homes'.waiting)) + length (waiting_words homes.waiting)) _ lines (omega arith)
-      (reach_shape homes waits changed same_state (count_of (Read to place count)) (program_words site.sources program + 59 + length (waiting_words homes'.waiting)) (addresses_of site.after program) (map plain (reading site.byte_word homes to place count)) r.rest lines
-      (ap (λ (step : Homes × List Line). (map plain (waiting_words homes.waiting) ++ step.1) ++ r.rest) found.1 ∙ r.whole) (read_front site homes are to place count have.0.0 have.0.1 have.0.2)
-      (direct_shape program homes' (homes_are to (read_home to count) (settled homes) (read_home_is to count) are) (record {
-        encodable = subst (λ (o : Option AlphaInstr). All IsEncodable (waiting_words o)) (sym quiet) (All-nil IsEncodable);
-        silent = subst (λ (o : Option AlphaInstr). list_all is_silent (waiting_words o) ≡ true) (sym quiet) refl;
-        operate = subst (λ (o : Option AlphaInstr). list_all is_operate (waiting_words o) ≡ true) (sym quiet) refl;
-      }) r.rest changed same_state behind (subst (λ (step : Homes × List Line). direct_lines site codes step.0 program ≡ Some r.rest) (sym found.1) r.onward) have.1 off' x.1))
+      let none = ap (λ (o : Option AlphaInstr). length (waiting_words o)) quiet.0 in
+      let still = ap (λ (o : Option AlphaInstr). length (waiting_words o)) quiet.1 in
+      weaker changed (addresses_of site.after program) (count_of (Read to place count) + (program_words site.sources program + 59 + waiting_count homes') + waiting_count homes) _ lines (omega arith)
+      (reach_shape homes waits changed same_state (count_of (Read to place count)) (program_words site.sources program + 59 + waiting_count homes') (addresses_of site.after program) (map plain (reading site.byte_word homes to place count)) r.rest lines
+      (ap (λ (step : Homes × List Line). (map plain (all_waiting homes) ++ step.1) ++ r.rest) found.1 ∙ r.whole) (read_front site homes are to place count have.0.0 have.0.1 have.0.2)
+      (direct_shape program homes' (homes_are to (read_home to count) (settled homes) (read_home_is to count) are) (record { before = subst Quiet (sym quiet.0) nothing_waits; last = subst Quiet (sym quiet.1) nothing_waits }) r.rest changed same_state behind (subst (λ (step : Homes × List Line). direct_lines site codes step.0 program ≡ Some r.rest) (sym found.1) r.onward) have.1 off' x.1))
   direct_shape (Write place count source ∷ program) homes are waits lines changed same_state known e have off walked =
       let x = walk_fits (write_fits known place count source) (behind_access known) (λ behind. walk site.sources behind program) (opened site.sources known (Write place count source) program off walked) in
       let r = reaching site codes homes (Write place count source) program lines e in
       let made : Homes × List Line = (settled homes, map plain (write_by site.byte_word (stands homes place) count (stands homes source))) in
       let found = where_true (may_write homes count source) made r.step r.is in
-      weaker changed (addresses_of site.after program) (count_of (Write place count source) + (program_words site.sources program + 59 + 0) + length (waiting_words homes.waiting)) _ lines (omega arith)
+      weaker changed (addresses_of site.after program) (count_of (Write place count source) + (program_words site.sources program + 59 + 0) + waiting_count homes) _ lines (omega arith)
       (reach_shape homes waits changed same_state (count_of (Write place count source)) (program_words site.sources program + 59 + 0) (addresses_of site.after program) (map plain (write_by site.byte_word (stands homes place) count (stands homes source))) r.rest lines
-      (ap (λ (step : Homes × List Line). (map plain (waiting_words homes.waiting) ++ step.1) ++ r.rest) found.1 ∙ r.whole) (write_front site homes are place count source have.0.0 have.0.1 have.0.2)
-      (direct_shape program (settled homes) are (record { encodable = All-nil IsEncodable; silent = refl; operate = refl }) r.rest changed same_state (behind_access known) (subst (λ (step : Homes × List Line). direct_lines site codes step.0 program ≡ Some r.rest) (sym found.1) r.onward) have.1 off x.1))
+      (ap (λ (step : Homes × List Line). (map plain (all_waiting homes) ++ step.1) ++ r.rest) found.1 ∙ r.whole) (write_front site homes are place count source have.0.0 have.0.1 have.0.2)
+      (direct_shape program (settled homes) are (record { before = nothing_waits; last = nothing_waits }) r.rest changed same_state (behind_access known) (subst (λ (step : Homes × List Line). direct_lines site codes step.0 program ≡ Some r.rest) (sym found.1) r.onward) have.1 off x.1))
   direct_shape (Locked to place kind source ∷ program) homes are waits lines changed same_state known e have off walked = absurd (cc e)
   direct_shape (SetPsw source ∷ program) homes are waits lines changed same_state known e have off walked = absurd (cc e)

@@ -43,7 +43,7 @@ use Rattle.block_law.proofs.Rules.{Always, operates, passes, roomy, skips}
 use Rattle.program_codegen.specs.declared.homes.Homes.{Homes}
 use Rattle.program_codegen.specs.declared.lines.Line.{Line}
 use Rattle.program_codegen.specs.declared.points.Site.{Site}
-use Rattle.program_codegen.specs.Homes.{AreHomes, are_short_rules, bit_register, bit_test, byte_test, choice_lines, code_test, copied, home_of, is_direct, made, may_test, moved_words, new_home, placed, standing_in, test_of, tested_exit, waiting_words, with_home, home_by, is_short_constant, long_test, needed_words}
+use Rattle.program_codegen.specs.Homes.{AreHomes, are_short_rules, bit_register, bit_test, byte_test, choice_lines, code_test, copied, home_of, is_direct, made, may_test, moved_words, new_home, placed, standing_in, test_of, tested_exit, waiting_words, with_home, home_by, is_short_constant, long_test, needed_words, tested_words}
 use Rattle.program_codegen.specs.Programs.{rule_of}
 use Rattle.program_codegen.specs.Words.{exit_lines, may_trap, plain}
 use Rattle.program_codegen.proofs.Coded.{Coded}
@@ -51,9 +51,10 @@ use Rattle.program_codegen.proofs.Departures.{same_psw}
 use Rattle.program_codegen.proofs.Exiting.{exit_value, exits_to}
 use Rattle.program_codegen.proofs.Holding.{Setting, ends, found, tree}
 use Rattle.program_codegen.proofs.HomeComputing.{given}
-use Rattle.program_codegen.proofs.HomeEnding.{coded_alike, emptied, leaves_codes, overflows}
+use Rattle.program_codegen.proofs.HomeEnding.{Waits, begins, effect_other, effects_append, coded_alike, emptied, leaves_codes, overflows}
 use Rattle.program_codegen.proofs.HomeHolding.{Direct, held_own, hidden, home_is}
 use Rattle.program_codegen.proofs.HomeSomes.{mapped}
+use Rattle.program_codegen.proofs.HomeSparing.{all_append}
 use Rattle.program_codegen.proofs.Numbers.{all_three, all_four}
 use Rattle.program_codegen.proofs.Testing.{trap_or}
 use Rattle.program_codegen.proofs.Trapping.{pc_left, untrapped}
@@ -221,7 +222,7 @@ pub record Tested (site : Site) (codes : List AlphaInstr) (homes : Homes) (to : 
   pub short : are_short_rules site.behind ≡ true
   pub test : BranchOp × ℕ
   pub found : test_of homes op size a b ≡ Some test
-  pub whole : map plain (needed_words to test.1 homes.waiting) ++ choice_lines test chosen other ≡ lines
+  pub whole : map plain (tested_words to test.1 homes) ++ choice_lines test chosen other ≡ lines
 
 pub tested : (site : Site) (codes : List AlphaInstr) (homes : Homes) (to : ℕ) (op : MicroOp) (size : Size) (a b : Arg) (exit : Exit) (lines : List Line) → tested_exit site codes homes to op size a b exit ≡ Some lines → Tested site codes homes to op size a b exit lines
 tested site codes homes to op size a b (exits.Choice when chosen other) lines e = by (when == to && may_test site codes homes to op size a b) refl e
@@ -235,12 +236,12 @@ tested site codes homes to op size a b (exits.Choice when chosen other) lines e 
     none (word ∷ words) e = let zero = eqb-true (length (word ∷ words)) 0 e in absurd (omega arith)
 
     by : (c : Bool) → (when == to && may_test site codes homes to op size a b) ≡ c
-        → (if c then option_map (λ (test : BranchOp × ℕ). map plain (needed_words to test.1 homes.waiting) ++ choice_lines test chosen other) (test_of homes op size a b) else None) ≡ Some lines → Tested site codes homes to op size a b (exits.Choice when chosen other) lines
+        → (if c then option_map (λ (test : BranchOp × ℕ). map plain (tested_words to test.1 homes) ++ choice_lines test chosen other) (test_of homes op size a b) else None) ≡ Some lines → Tested site codes homes to op size a b (exits.Choice when chosen other) lines
     by true is e =
         let x = and_parts (when == to) (may_test site codes homes to op size a b) is in
         let y = all_four (nat_lt to 6 && is_direct homes to op size a b && is_none (made homes to op size a b)) (length codes == 0) (not (may_trap site)) (are_short_rules site.behind) x.1 in
         let first = all_three (nat_lt to 6) (is_direct homes to op size a b) (is_none (made homes to op size a b)) y.0 in
-        let m = mapped (BranchOp × ℕ) (List Line) (λ (test : BranchOp × ℕ). map plain (needed_words to test.1 homes.waiting) ++ choice_lines test chosen other) (test_of homes op size a b) lines e in
+        let m = mapped (BranchOp × ℕ) (List Line) (λ (test : BranchOp × ℕ). map plain (tested_words to test.1 homes) ++ choice_lines test chosen other) (test_of homes op size a b) lines e in
         record {
           chosen = chosen;
           other = other;
@@ -283,13 +284,6 @@ chooses_by p site known standing regs c test false pc chosen other unlinked e w 
     (is_inside p site.behind pc (pc + 1) _ w (omega arith) (omega arith)) (exits_to p site known standing regs c (pc + 1) chosen (exit_lines other) w1))
 
 -- ---- what waits
-effect_other : (word : AlphaInstr) (f : Regs) (n : ℕ) → (n == written word) ≡ false → effect word f n ≡ f n
-effect_other (Operate op ra rb rc) f n e = put_other f rc (result_of op (f ra) (second_value rb f) (f rc)) n e
-effect_other (Memory op ra rb disp) f n e = refl
-effect_other (Branch op ra disp) f n e = refl
-effect_other (Jump ra rb) f n e = refl
-effect_other (Pal number) f n e = refl
-
 record Needed (to register : ℕ) (o : Option AlphaInstr) (regs : Regs) : Type 0 where
   pub same : (n : ℕ) → (n == (21 + to)) ≡ false → effects (needed_words to register o) regs n ≡ effects (waiting_words o) regs n
   pub read : effects (needed_words to register o) regs register ≡ effects (waiting_words o) regs register
@@ -318,7 +312,7 @@ needed to register (Some word) regs waits = by (written word == (21 + to) && not
 -- ---- from the computation on
 module _ (p : Placement) (site : Site) (codes : List AlphaInstr) (setting : Setting p site codes) where
   pub tested_follows : (known : Known) (homes : Homes) (standing : Standing) (regs : Regs) (pc to : ℕ) (op : MicroOp) (size : Size) (a b : Arg) (exit : Exit) (lines : List Line)
-      → list_all is_operate (waiting_words homes.waiting) ≡ true → Direct p site known homes standing (effects (waiting_words homes.waiting) regs)
+      → Waits homes → Direct p site known homes standing (begins homes regs)
       → Tested site codes homes to op size a b exit lines → Within p site.behind pc lines
       → computation_fits known to op a b ≡ true → IsArgument a → (is_unary op ≡ false → IsArgument b)
       → ((flag : ℕ) → flag < 4 → takes (is_flag flag) op a b ≡ true → is_ready (rule_of flag site.before) ≡ true)
@@ -327,16 +321,16 @@ module _ (p : Placement) (site : Site) (codes : List AlphaInstr) (setting : Sett
       → AtLeaves (CodesComeFrom site.sources p.begun) (leaves_by exit (found p site) (with_value to (computed op size (value_of_arg (found p site) standing.temps a) (value_of_arg (found p site) standing.temps b) (standing.temps to)) standing))
       → Always p None (length lines) (at_place regs pc) (tree (ends p) (leaves_by exit (found p site) (with_value to (computed op size (value_of_arg (found p site) standing.temps a) (value_of_arg (found p site) standing.temps b) (standing.temps to)) standing)))
   tested_follows known homes standing regs pc to op size a b exit lines waits d s w ok a_is b_is ready exit_ok sources agree =
-      let count : length (map plain (needed_words to s.test.1 homes.waiting) ++ choice_lines s.test s.chosen s.other) ≡ length (needed_words to s.test.1 homes.waiting) + 7 = row_length p site.behind (needed_words to s.test.1 homes.waiting) (choice_lines s.test s.chosen s.other) in
+      let count : length (map plain (tested_words to s.test.1 homes) ++ choice_lines s.test s.chosen s.other) ≡ length (tested_words to s.test.1 homes) + 7 = row_length p site.behind (tested_words to s.test.1 homes) (choice_lines s.test s.chosen s.other) in
       let high = within.high in
       subst (λ (ls : List Line). Always p None (length ls) (at_place regs pc) (tree (ends p) (leaves_by exit (found p site) after))) s.whole
-      (subst (λ exit. Always p None (length (map plain (needed_words to s.test.1 homes.waiting) ++ choice_lines s.test s.chosen s.other)) (at_place regs pc) (tree (ends p) (leaves_by exit (found p site) after))) (sym s.is)
-      (roomy p None (length (needed_words to s.test.1 homes.waiting) + 7) (length (map plain (needed_words to s.test.1 homes.waiting) ++ choice_lines s.test s.chosen s.other)) (at_place regs pc) _ (omega arith)
-      (operates p None 7 (needed_words to s.test.1 homes.waiting) regs pc _ (row_words p site.behind pc (needed_words to s.test.1 homes.waiting) (choice_lines s.test s.chosen s.other) within) n.operate within.low (omega arith)
-      (λ q lt le. is_inside p site.behind pc q (map plain (needed_words to s.test.1 homes.waiting) ++ choice_lines s.test s.chosen s.other) within lt (omega arith))
-      (subst (λ c. Always p None 7 (at_place now (pc + length (needed_words to s.test.1 homes.waiting))) (departed p.serve (if c then Ended (Trap 1 (with_pc (pc_left site after (exits.Choice to s.chosen s.other)) after.state)) else onward))) (sym calm)
-      (subst (λ c. Always p None 7 (at_place now (pc + length (needed_words to s.test.1 homes.waiting))) (Ends (Finish (with_pc (if c then s.other else s.chosen) after.state)))) same
-      (chooses_by p site (emptied (hidden homes_then behind)) after now coded_now s.test (taken s.test.0 (now s.test.1)) (pc + length (needed_words to s.test.1 homes.waiting)) s.chosen s.other f.unlinked refl (row_rest p site.behind pc (needed_words to s.test.1 homes.waiting) (choice_lines s.test s.chosen s.other) within)))))))
+      (subst (λ exit. Always p None (length (map plain (tested_words to s.test.1 homes) ++ choice_lines s.test s.chosen s.other)) (at_place regs pc) (tree (ends p) (leaves_by exit (found p site) after))) (sym s.is)
+      (roomy p None (length (tested_words to s.test.1 homes) + 7) (length (map plain (tested_words to s.test.1 homes) ++ choice_lines s.test s.chosen s.other)) (at_place regs pc) _ (omega arith)
+      (operates p None 7 (tested_words to s.test.1 homes) regs pc _ (row_words p site.behind pc (tested_words to s.test.1 homes) (choice_lines s.test s.chosen s.other) within) operate within.low (omega arith)
+      (λ q lt le. is_inside p site.behind pc q (map plain (tested_words to s.test.1 homes) ++ choice_lines s.test s.chosen s.other) within lt (omega arith))
+      (subst (λ c. Always p None 7 (at_place now (pc + length (tested_words to s.test.1 homes))) (departed p.serve (if c then Ended (Trap 1 (with_pc (pc_left site after (exits.Choice to s.chosen s.other)) after.state)) else onward))) (sym calm)
+      (subst (λ c. Always p None 7 (at_place now (pc + length (tested_words to s.test.1 homes))) (Ends (Finish (with_pc (if c then s.other else s.chosen) after.state)))) same
+      (chooses_by p site (emptied (hidden homes_then behind)) after now coded_now s.test (taken s.test.0 (now s.test.1)) (pc + length (tested_words to s.test.1 homes)) s.chosen s.other f.unlinked refl (row_rest p site.behind pc (tested_words to s.test.1 homes) (choice_lines s.test s.chosen s.other) within)))))))
     where
       after : Standing
       after = with_value to (computed op size (value_of_arg (found p site) standing.temps a) (value_of_arg (found p site) standing.temps b) (standing.temps to)) standing
@@ -348,18 +342,24 @@ module _ (p : Placement) (site : Site) (codes : List AlphaInstr) (setting : Sett
       homes_then = with_home to (new_home homes to op size a b) homes
 
       begun : Regs
-      begun = effects (waiting_words homes.waiting) regs
+      begun = begins homes regs
 
       f : Facts homes to op size a b s.test
       f = facts homes d.are to s.own op size a b s.test s.found
 
-      n : Needed to s.test.1 homes.waiting regs
-      n = needed to s.test.1 homes.waiting regs waits
+      n : Needed to s.test.1 homes.waiting (effects (waiting_words homes.before) regs)
+      n = needed to s.test.1 homes.waiting (effects (waiting_words homes.before) regs) waits.1
 
       now : Regs
-      now = effects (needed_words to s.test.1 homes.waiting) regs
+      now = effects (tested_words to s.test.1 homes) regs
 
-      within : Within p site.behind pc (map plain (needed_words to s.test.1 homes.waiting) ++ choice_lines s.test s.chosen s.other)
+      same_now : (k : ℕ) → effects (tested_words to s.test.1 homes) regs k ≡ effects (needed_words to s.test.1 homes.waiting) (effects (waiting_words homes.before) regs) k
+      same_now k = ap (λ (f : Regs). f k) (effects_append (waiting_words homes.before) (needed_words to s.test.1 homes.waiting) regs)
+
+      operate : list_all is_operate (tested_words to s.test.1 homes) ≡ true
+      operate = all_append (waiting_words homes.before) (needed_words to s.test.1 homes.waiting) waits.0 n.operate
+
+      within : Within p site.behind pc (map plain (tested_words to s.test.1 homes) ++ choice_lines s.test s.chosen s.other)
       within = subst (Within p site.behind pc) (sym s.whole) w
 
       value : ℕ
@@ -388,7 +388,7 @@ module _ (p : Placement) (site : Site) (codes : List AlphaInstr) (setting : Sett
 
       coded_now : Coded p site (emptied (hidden homes_then behind)) after now
       coded_now = let own = s.own in
-          coded_alike p site (hidden homes_then behind) after whole now (21 + to) (omega arith) (omega arith) (λ k other. n.same k other ∙ sym (put_other begun (21 + to) value k other)) coded
+          coded_alike p site (hidden homes_then behind) after whole now (21 + to) (omega arith) (omega arith) (λ k other. same_now k ∙ n.same k other ∙ sym (put_other begun (21 + to) value k other)) coded
 
       calm : traps after ≡ false
       calm = ap (λ c. c && (flag_of 5 after.state.psw == 1))
@@ -403,5 +403,5 @@ module _ (p : Placement) (site : Site) (codes : List AlphaInstr) (setting : Sett
       same =
           let own = s.own in
           let last : ((21 + to) == 31) ≡ false = grind (arith, nat_tests) in
-          ap (taken s.test.0) n.read
+          ap (taken s.test.0) (same_now s.test.1 ∙ n.read)
           ∙ sym (f.value begun (begun (21 + to)) d.holds.form.codes) ∙ ap (λ n. n == 0) (sym (put_same begun (21 + to) value last) ∙ held_there)

@@ -26,7 +26,7 @@ use Rattle.program_codegen.specs.declared.lines.Line.{Line}
 use Rattle.program_codegen.specs.declared.points.Site.{Site}
 use Rattle.program_codegen.specs.Strings.{behind_words, move_words, operands_of, steps_of as steps_of_move, string_block, string_check, string_lines, string_site}
 use Rattle.program_codegen.specs.Blocks.{chosen_lines, program_block}
-use Rattle.program_codegen.specs.Homes.{direct_end, direct_lines, direct_step, either_of, end_at, next_exit, no_homes, tested_at, tested_exit, is_extended, is_shared, may_write, read_home, reading, settled, stands, waiting_words, with_home, with_waiting}
+use Rattle.program_codegen.specs.Homes.{direct_end, direct_lines, direct_step, either_of, end_at, next_exit, no_homes, tested_at, tested_exit, is_extended, is_shared, may_write, read_home, reading, settled, stands, with_home, all_waiting, behind_waiting}
 use Rattle.program_codegen.specs.Calls.{align_frame, call_at, call_block, call_lines, call_site, check_lines, checks_from, count_lines, displacement, entry_words, frame_of, frame_program, front_program, list_program, pushes_from, steps_of}
 use Rattle.program_codegen.specs.Words.{block_of, exit_lines, holder, lines_of, plain, point_of, points_alone, points_from, program_lines, read_by, site_of, with_entry, with_first, write_by, copy, marked, probing}
 
@@ -249,7 +249,7 @@ module _ (instr : Instr) (sources : CodeSources) (before behind : Rules) (byte_w
       by alike None = tt
       by alike (Some step) = mapped_alike (map plain step.1) (map plain step.1) (direct_lines here codes step.0 program) (direct_lines there codes step.0 program) (are_same (map plain step.1)) (alike step.0)
   direct_alike (Probe place count write ∷ program) homes =
-      let front = map plain (waiting_words homes.waiting) ++ (plain (copy (stands homes place) 27) ∷ marked (Pal 0x80) (probing here count write) ∷ []) in
+      let front = map plain (all_waiting homes) ++ (plain (copy (stands homes place) 27) ∷ marked (Pal 0x80) (probing here count write) ∷ []) in
       mapped_alike front front (direct_lines here codes (settled homes) program) (direct_lines there codes (settled homes) program) (are_same front) (direct_alike program (settled homes))
   direct_alike (Read to place count ∷ program) homes = by (is_shared homes to) (direct_alike program homes')
     where
@@ -257,26 +257,26 @@ module _ (instr : Instr) (sources : CodeSources) (before behind : Rules) (byte_w
       homes' = with_home to (read_home to count) (settled homes)
 
       by : (b : Bool) → BothAlike (direct_lines here codes homes' program) (direct_lines there codes homes' program)
-          → BothAlike (option_and_then (λ (step : Homes × List Line). option_map (λ (lines : List Line). step.1 ++ lines) (direct_lines here codes step.0 program)) (option_map (with_waiting homes) (if b then None else Some (homes', map plain (reading byte_word homes to place count)))))
-          (option_and_then (λ (step : Homes × List Line). option_map (λ (lines : List Line). step.1 ++ lines) (direct_lines there codes step.0 program)) (option_map (with_waiting homes) (if b then None else Some (homes', map plain (reading other homes to place count)))))
+          → BothAlike (option_and_then (λ (step : Homes × List Line). option_map (λ (lines : List Line). step.1 ++ lines) (direct_lines here codes step.0 program)) (option_map (behind_waiting homes) (if b then None else Some (homes', map plain (reading byte_word homes to place count)))))
+          (option_and_then (λ (step : Homes × List Line). option_map (λ (lines : List Line). step.1 ++ lines) (direct_lines there codes step.0 program)) (option_map (behind_waiting homes) (if b then None else Some (homes', map plain (reading other homes to place count)))))
       by true h = tt
       by false h =
-          mapped_alike (map plain (waiting_words homes.waiting) ++ map plain (reading byte_word homes to place count)) (map plain (waiting_words homes.waiting) ++ map plain (reading other homes to place count))
+          mapped_alike (map plain (all_waiting homes) ++ map plain (reading byte_word homes to place count)) (map plain (all_waiting homes) ++ map plain (reading other homes to place count))
           (direct_lines here codes homes' program) (direct_lines there codes homes' program)
-          (both_alike (map plain (waiting_words homes.waiting)) (map plain (waiting_words homes.waiting)) (map plain (reading byte_word homes to place count)) (map plain (reading other homes to place count)) (are_same (map plain (waiting_words homes.waiting))) (reading_alike homes to place count)) h
+          (both_alike (map plain (all_waiting homes)) (map plain (all_waiting homes)) (map plain (reading byte_word homes to place count)) (map plain (reading other homes to place count)) (are_same (map plain (all_waiting homes))) (reading_alike homes to place count)) h
   direct_alike (Write place count source ∷ program) homes = by (may_write homes count source) (direct_alike program (settled homes))
     where
       words : Bool → List AlphaInstr
       words byte_word = write_by byte_word (stands homes place) count (stands homes source)
 
       by : (b : Bool) → BothAlike (direct_lines here codes (settled homes) program) (direct_lines there codes (settled homes) program)
-          → BothAlike (option_and_then (λ (step : Homes × List Line). option_map (λ (lines : List Line). step.1 ++ lines) (direct_lines here codes step.0 program)) (option_map (with_waiting homes) (if b then Some (settled homes, map plain (write_by byte_word (stands homes place) count (stands homes source))) else None)))
-          (option_and_then (λ (step : Homes × List Line). option_map (λ (lines : List Line). step.1 ++ lines) (direct_lines there codes step.0 program)) (option_map (with_waiting homes) (if b then Some (settled homes, map plain (write_by other (stands homes place) count (stands homes source))) else None)))
+          → BothAlike (option_and_then (λ (step : Homes × List Line). option_map (λ (lines : List Line). step.1 ++ lines) (direct_lines here codes step.0 program)) (option_map (behind_waiting homes) (if b then Some (settled homes, map plain (write_by byte_word (stands homes place) count (stands homes source))) else None)))
+          (option_and_then (λ (step : Homes × List Line). option_map (λ (lines : List Line). step.1 ++ lines) (direct_lines there codes step.0 program)) (option_map (behind_waiting homes) (if b then Some (settled homes, map plain (write_by other (stands homes place) count (stands homes source))) else None)))
       by false h = tt
       by true h =
-          mapped_alike (map plain (waiting_words homes.waiting) ++ map plain (write_by byte_word (stands homes place) count (stands homes source))) (map plain (waiting_words homes.waiting) ++ map plain (write_by other (stands homes place) count (stands homes source)))
+          mapped_alike (map plain (all_waiting homes) ++ map plain (write_by byte_word (stands homes place) count (stands homes source))) (map plain (all_waiting homes) ++ map plain (write_by other (stands homes place) count (stands homes source)))
           (direct_lines here codes (settled homes) program) (direct_lines there codes (settled homes) program)
-          (both_alike (map plain (waiting_words homes.waiting)) (map plain (waiting_words homes.waiting)) (map plain (write_by byte_word (stands homes place) count (stands homes source))) (map plain (write_by other (stands homes place) count (stands homes source))) (are_same (map plain (waiting_words homes.waiting)))
+          (both_alike (map plain (all_waiting homes)) (map plain (all_waiting homes)) (map plain (write_by byte_word (stands homes place) count (stands homes source))) (map plain (write_by other (stands homes place) count (stands homes source))) (are_same (map plain (all_waiting homes)))
           (plain_alike (write_by byte_word (stands homes place) count (stands homes source)) (write_by other (stands homes place) count (stands homes source)) (writes_some byte_word (stands homes place) count (stands homes source)) (writes_some other (stands homes place) count (stands homes source)))) h
   direct_alike (Commit number source ∷ program) homes = same_both _ _ (ends_same homes (end_at sources (Commit number source) program))
   direct_alike (Codes n z v c ∷ program) homes = same_both _ _ (ends_same homes (end_at sources (Codes n z v c) program))

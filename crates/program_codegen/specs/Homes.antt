@@ -22,7 +22,7 @@ use Rattle.micro_ops.specs.declared.codes.CodeSources.{CodeSources}
 use Rattle.micro_ops.specs.declared.program.Arg.{Arg}
 use Rattle.micro_ops.specs.declared.program.Arg.TheVariants as arguments
 use Rattle.micro_ops.specs.declared.program.Exit.{Exit}
-use Rattle.micro_ops.specs.declared.program.Exit.TheVariants.{Next, Fixed, Choice}
+use Rattle.micro_ops.specs.declared.program.Exit.TheVariants.{Next, Fixed, Computed, Choice, Service}
 use Rattle.micro_ops.specs.declared.program.Micro.{Micro}
 use Rattle.micro_ops.specs.declared.program.Micro.TheVariants.{Compute, Probe, Read, Write, Commit, Codes, Leave}
 use Rattle.micro_ops.specs.declared.program.MicroOp.{MicroOp}
@@ -38,9 +38,9 @@ use Rattle.program_codegen.specs.Words.{plain, marked, holder, copy, probing, ex
 
 -- ---- homes
 -- Temporaries 0 to 2 may be the low longword of a register that is extended with its sign: of a VAX register, or of one of
--- their own. All others stand in their own registers, exactly. The word that makes one may wait.
+-- their own. All others stand in their own registers, exactly. The last two words may wait.
 abbrev pub no_homes : Homes
-no_homes = record { first = None; second = None; result = None; waiting = None }
+no_homes = record { first = None; second = None; result = None; before = None; waiting = None }
 
 abbrev pub home_of : Homes → (temp : ℕ) → Option ℕ
 home_of homes temp =
@@ -151,14 +151,14 @@ is_logical op = false
 abbrev pub made_size : MicroOp → Size → Size
 made_size op size = if is_quad size && is_logical op then Long else size
 
--- a constant that is a literal has one word, too
+-- a constant that is a literal has one word, too, of whatever size
 abbrev pub literal_word : (to : ℕ) → Arg → Option AlphaInstr
 literal_word to (arguments.Const value) = if nat_lt value 256 then Some (Operate row.Bis ZERO (seconds.Literal value) to) else None
 literal_word to arg = None
 
 abbrev pub made : Homes → (to : ℕ) → MicroOp → Size → (a b : Arg) → Option AlphaInstr
 made homes to op size a b =
-    if nat_lt to 3 && is_copying op size then literal_word (holder to) a
+    if nat_lt to 3 && is_moved op then literal_word (holder to) a
     else if to == 2 then one_word (long_operation op) homes (made_size op size) a b (holder 2) else None
 
 abbrev pub compared : Homes → (to : ℕ) → MicroOp → Size → (a b : Arg) → Option AlphaInstr
@@ -186,20 +186,25 @@ direct_code homes to op size a b =
     code_by (copied homes to op size a) (made homes to op size a b) (compared homes to op size a b)
     (compute_code op size (placed homes a) (placed homes b) (holder to))
 
--- A word that makes a literal or the result waits until another computation has words, or up to the end.
+-- A word that makes a literal or the result, or compares, waits until two others do, or another computation has words, or up to
+-- the end.
 abbrev pub waiting_words : Option AlphaInstr → List AlphaInstr
 waiting_words None = []
 waiting_words (Some word) = word ∷ []
 
-abbrev pub step_by : (copied : Option ℕ) → (made waiting : Option AlphaInstr) → Homes → (words : List AlphaInstr) → Homes × List AlphaInstr
-step_by (Some register) made waiting homes words = (homes, [])
-step_by None (Some word) waiting homes words = (record homes { waiting = Some word }, waiting_words waiting)
-step_by None None waiting homes words = (record homes { waiting = None }, waiting_words waiting ++ words)
+abbrev pub all_waiting : Homes → List AlphaInstr
+all_waiting homes = waiting_words homes.before ++ waiting_words homes.waiting
+
+abbrev pub step_by : (copied : Option ℕ) → (made compared : Option AlphaInstr) → (before waiting : Option AlphaInstr) → Homes → (words : List AlphaInstr) → Homes × List AlphaInstr
+step_by (Some register) made compared before waiting homes words = (homes, [])
+step_by None (Some word) compared before waiting homes words = (record homes { before = waiting; waiting = Some word }, waiting_words before)
+step_by None None (Some word) before waiting homes words = (record homes { before = waiting; waiting = Some word }, waiting_words before)
+step_by None None None before waiting homes words = (record homes { before = None; waiting = None }, waiting_words before ++ (waiting_words waiting ++ words))
 
 -- where the temporaries stand behind a computation, and the words that stand up to there
 abbrev pub direct_by : Homes → (to : ℕ) → MicroOp → Size → (a b : Arg) → Homes × List AlphaInstr
 direct_by homes to op size a b =
-    step_by (copied homes to op size a) (made homes to op size a b) homes.waiting
+    step_by (copied homes to op size a) (made homes to op size a b) (compared homes to op size a b) homes.before homes.waiting
     (with_home to (new_home homes to op size a b) homes) (direct_code homes to op size a b)
 
 -- ---- the words that leave the codes
@@ -387,8 +392,8 @@ commit_words homes None = []
 commit_words homes (Some commit) =
     Operate row.Addl (unwrap_or (home_of homes commit.1) (holder commit.1)) (seconds.Literal 0) commit.0 ∷ []
 
--- ---- the result
--- Where nothing but copies of the result is wanted, each of them is made where it goes, and the result has no word of its own.
+-- ---- words that are spared
+-- Where nothing but copies of what a word makes is wanted, each of them is made where it goes, and the word is spared.
 abbrev pub second_reads : Second → (register : ℕ) → Bool
 second_reads (seconds.Register number) register = number == register
 second_reads (seconds.Literal value) register = false
@@ -397,70 +402,73 @@ abbrev pub word_reads : AlphaInstr → (register : ℕ) → Bool
 word_reads (Operate op first second to) register = (first == register) || second_reads second register
 word_reads word register = true
 
-abbrev pub result_place : ℕ
-result_place = holder 2
+-- it goes by what stands in the register
+abbrev pub goes_by : Exit → (register : ℕ) → Bool
+goes_by (Computed temp) register = holder temp == register
+goes_by (Choice when taken other) register = holder when == register
+goes_by (Service temp) register = holder temp == register
+goes_by exit register = false
 
--- it makes the result, whatever that register held
-abbrev pub is_result : AlphaInstr → Bool
-is_result (Operate op first second to) = to == result_place && not (is_choice op)
-is_result word = false
+-- the register of a temporary that nothing reads behind the block's words
+abbrev pub is_left : Exit → (register : ℕ) → Bool
+is_left exit register = nat_lt 20 register && nat_lt register 27 && not (goes_by exit register)
 
-abbrev pub copies_result : AlphaInstr → Bool
-copies_result (Operate row.Bis first (seconds.Register register) to) = first == ZERO && register == result_place
-copies_result word = false
+-- what a word makes is left there, whatever that register held
+abbrev pub is_spare : Exit → AlphaInstr → Bool
+is_spare exit (Operate op first second to) = is_left exit to && not (is_choice op)
+is_spare exit word = false
+
+-- a copy as it stands, or of a number that is extended with its sign
+abbrev pub copies_from : (place : ℕ) → (extended : Bool) → AlphaInstr → Bool
+copies_from place extended (Operate row.Bis first (seconds.Register register) to) = first == ZERO && register == place
+copies_from place extended (Operate row.Addl first (seconds.Literal value) to) = extended && first == place && value == 0
+copies_from place extended word = false
 
 -- the same word, but for the register that it writes
 abbrev pub into : (to : ℕ) → AlphaInstr → AlphaInstr
 into to (Operate op first second place) = Operate op first second to
 into to word = word
 
--- a word that leaves what makes the result as it is, and the result
-abbrev pub leaves_result : (made word : AlphaInstr) → Bool
-leaves_result made word = not (word_reads made (written word)) && not (written word == result_place)
+-- a word leaves what is made as it is, and what makes it, unless it is the last
+abbrev pub leaves_made : (place : ℕ) → (last : Bool) → (made word : AlphaInstr) → Bool
+leaves_made place last made word = (last || not (word_reads made (written word))) && not (written word == place)
 
--- a word that copies the result makes it, and no other may read it
-abbrev pub spared_word : (made word : AlphaInstr) → Option AlphaInstr
-spared_word made word =
-    if not (leaves_result made word) then None
-    else if copies_result word then Some (into (written word) made)
-    else if word_reads word result_place then None else Some word
+-- a word that copies it makes it, and no other may read it
+abbrev pub spared_word : (place : ℕ) → (extended last : Bool) → (made word : AlphaInstr) → Option AlphaInstr
+spared_word place extended last made word =
+    if not (leaves_made place last made word) then None
+    else if copies_from place extended word then Some (into (written word) made)
+    else if word_reads word place then None else Some word
 
-abbrev pub spared_words : (made : AlphaInstr) → List AlphaInstr → Option (List AlphaInstr)
-spared_words made [] = Some []
-spared_words made (word ∷ words) =
-    option_and_then (λ spared. option_map (λ rest. spared ∷ rest) (spared_words made words)) (spared_word made word)
+abbrev pub spared_words : (place : ℕ) → (extended : Bool) → (made : AlphaInstr) → List AlphaInstr → Option (List AlphaInstr)
+spared_words place extended made [] = Some []
+spared_words place extended made (word ∷ words) =
+    option_and_then (λ spared. option_map (λ rest. spared ∷ rest) (spared_words place extended made words)) (spared_word place extended (length words == 0) made word)
 
-abbrev pub commits_result : Option (ℕ × ℕ) → Bool
-commits_result None = true
-commits_result (Some commit) = commit.1 == 2
+abbrev pub rewrites : (place : ℕ) → Option AlphaInstr → Bool
+rewrites place None = false
+rewrites place (Some word) = written word == place
 
--- it goes on by no temporary
-abbrev pub goes_alone : Exit → Bool
-goes_alone Next = true
-goes_alone (Fixed address) = true
-goes_alone exit = false
+-- a word's number is the low longword of its register, extended with its sign, still behind the word that comes next
+abbrev pub makes_home : Homes → (word : AlphaInstr) → (next : Option AlphaInstr) → Bool
+makes_home homes word next = stands_in (home_at homes (written word)) (written word) && not (rewrites (written word) next)
 
-abbrev pub may_spare : Homes → (commit : Option (ℕ × ℕ)) → Exit → (made : AlphaInstr) → Bool
-may_spare homes commit exit made = is_result made && stands_in homes.result result_place && commits_result commit && goes_alone exit
+abbrev pub with_spared : Exit → Homes → (word : AlphaInstr) → (next : Option AlphaInstr) → List AlphaInstr → List AlphaInstr
+with_spared exit homes word next words =
+    if is_spare exit word then unwrap_or (spared_words (written word) (makes_home homes word next) word words) (word ∷ words) else word ∷ words
 
-abbrev pub made_commit : (made : AlphaInstr) → Option (ℕ × ℕ) → List AlphaInstr
-made_commit made None = []
-made_commit made (Some commit) = into commit.0 made ∷ []
-
-abbrev pub spared : Homes → (commit : Option (ℕ × ℕ)) → Exit → (codes : List AlphaInstr) → (made : AlphaInstr) → Option (List AlphaInstr)
-spared homes commit exit codes made =
-    if may_spare homes commit exit made
-    then option_map (λ (words : List AlphaInstr). words ++ made_commit made commit) (spared_words made codes)
-    else None
+abbrev pub with_waiting : Exit → Homes → (word next : Option AlphaInstr) → List AlphaInstr → List AlphaInstr
+with_waiting exit homes None next words = words
+with_waiting exit homes (Some word) next words = with_spared exit homes word next words
 
 -- the words up to the one that writes the register
-abbrev pub end_words : (waiting : Option AlphaInstr) → Homes → (commit : Option (ℕ × ℕ)) → Exit → (codes : List AlphaInstr) → List AlphaInstr
-end_words waiting homes commit exit codes =
-    unwrap_or (option_and_then (spared homes commit exit codes) waiting) (waiting_words waiting ++ (codes ++ commit_words homes commit))
+abbrev pub end_words : Homes → (commit : Option (ℕ × ℕ)) → Exit → (codes : List AlphaInstr) → List AlphaInstr
+end_words homes commit exit codes =
+    with_waiting exit homes homes.before homes.waiting (with_waiting exit homes homes.waiting None (codes ++ commit_words homes commit))
 
 abbrev pub end_lines : Site → Homes → (commit : Option (ℕ × ℕ)) → Exit → (codes : List AlphaInstr) → List Line
 end_lines site homes commit exit codes =
-    map plain (end_words homes.waiting homes commit exit codes) ++ (trap_lines site exit ++ departing site exit)
+    map plain (end_words homes commit exit codes) ++ (trap_lines site exit ++ departing site exit)
 
 abbrev pub may_end : Site → Homes → (commit : Option (ℕ × ℕ)) → Exit → Bool
 may_end site homes commit exit = commit_stays commit && exit_stays homes exit && are_short_rules site.behind
@@ -492,7 +500,7 @@ abbrev pub stands : Homes → (temp : ℕ) → ℕ
 stands homes temp = unwrap_or (home_of homes temp) (holder temp)
 
 abbrev pub settled : Homes → Homes
-settled homes = record homes { waiting = None }
+settled homes = record homes { before = None; waiting = None }
 
 -- a longword that is read into temporaries 0 to 2 is extended with its sign
 abbrev pub is_extended : (to count : ℕ) → Bool
@@ -523,12 +531,12 @@ reached site homes (Write place count from) =
     else None
 reached site homes operation = None
 
--- the word that waits comes first
-abbrev pub with_waiting : Homes → Homes × List Line → Homes × List Line
-with_waiting homes step = (step.0, map plain (waiting_words homes.waiting) ++ step.1)
+-- the words that wait come first
+abbrev pub behind_waiting : Homes → Homes × List Line → Homes × List Line
+behind_waiting homes step = (step.0, map plain (all_waiting homes) ++ step.1)
 
 abbrev pub reach : Site → Homes → Micro → Option (Homes × List Line)
-reach site homes operation = option_map (with_waiting homes) (reached site homes operation)
+reach site homes operation = option_map (behind_waiting homes) (reached site homes operation)
 
 -- ---- a step
 abbrev pub goes_on : Micro → Bool
@@ -595,6 +603,9 @@ abbrev pub needed_words : (to register : ℕ) → (waiting : Option AlphaInstr) 
 needed_words to register None = []
 needed_words to register (Some word) = if written word == holder to && not (register == holder to) then [] else word ∷ []
 
+abbrev pub tested_words : (to register : ℕ) → Homes → List AlphaInstr
+tested_words to register homes = waiting_words homes.before ++ needed_words to register homes.waiting
+
 -- no word leaves a code, and nothing traps
 abbrev pub may_test : Site → (codes : List AlphaInstr) → Homes → (to : ℕ) → MicroOp → Size → (a b : Arg) → Bool
 may_test site codes homes to op size a b =
@@ -604,7 +615,7 @@ may_test site codes homes to op size a b =
 abbrev pub tested_exit : Site → (codes : List AlphaInstr) → Homes → (to : ℕ) → MicroOp → Size → (a b : Arg) → Exit → Option (List Line)
 tested_exit site codes homes to op size a b (Choice when taken other) =
     if when == to && may_test site codes homes to op size a b
-    then option_map (λ (test : BranchOp × ℕ). map plain (needed_words to test.1 homes.waiting) ++ choice_lines test taken other) (test_of homes op size a b)
+    then option_map (λ (test : BranchOp × ℕ). map plain (tested_words to test.1 homes) ++ choice_lines test taken other) (test_of homes op size a b)
     else None
 tested_exit site codes homes to op size a b exit = None
 

@@ -1,8 +1,9 @@
 // Where the temporaries of a program stand, and the words of its computations.
-ghost use Rattle.std.specs.Prelude.{◌≡◌, ◌++◌, ◌≤◌, OnOk, IfOk, false, map};
+ghost use Rattle.std.specs.Prelude.{◌≡◌, ◌++◌, ◌≤◌, OnOk, IfOk, false, Some, None, map};
 ghost use Rattle.compute_sequences.specs.Registers.{IsArgument, IsTarget};
+ghost use Rattle.compute_sequences.specs.Words.{is_moved};
 ghost use Rattle.micro_ops.specs.Uses.{is_unary};
-ghost use Rattle.program_codegen.specs.Homes.{AreHomes, home_of, with_home, home_at, stands_in, is_shared, argument_in, standing_in, placed, extended_register, extended_second, extended_first, long_operation, comparison, joined_word, one_word, is_copying, copied, is_logical, made_size, made, compared, new_home, direct_code, is_direct, waiting_words, direct_by, is_short_constant, literal_word};
+ghost use Rattle.program_codegen.specs.Homes.{AreHomes, home_of, with_home, all_waiting, home_at, stands_in, is_shared, argument_in, standing_in, placed, extended_register, extended_second, extended_first, long_operation, comparison, joined_word, one_word, is_copying, copied, is_logical, made_size, made, compared, new_home, direct_code, is_direct, waiting_words, direct_by, is_short_constant, literal_word};
 ghost use Rattle.program_codegen.specs.Words.{holder, plain};
 
 use crate::lines::{Line, holder, push_words};
@@ -31,7 +32,8 @@ pub(crate) struct Homes {
     pub(crate) first: Option<u8>,
     pub(crate) second: Option<u8>,
     pub(crate) result: Option<u8>,
-    /// The word that makes one of them, where that waits.
+    /// The last two words, where they wait.
+    pub(crate) before: Option<AlphaInstr>,
     pub(crate) waiting: Option<AlphaInstr>,
 }
 
@@ -39,6 +41,7 @@ pub(crate) const NO_HOMES: Homes = Homes {
     first: None,
     second: None,
     result: None,
+    before: None,
     waiting: None,
 };
 
@@ -254,6 +257,13 @@ fn copied(homes: Homes, to: u8, op: MicroOp, size: Size, a: Arg) -> Option<u8>
     }
 }
 
+/// Whether it gives its argument, but for the bits above its size.
+fn is_moved(op: MicroOp) -> bool
+    ensures { result ≡ is_moved op }
+{
+    matches!(op, MicroOp::Move | MicroOp::ZeroExtend)
+}
+
 fn is_logical(op: MicroOp) -> bool
     ensures { result ≡ is_logical op }
 {
@@ -301,7 +311,7 @@ pub(crate) fn made(
 ) -> Option<AlphaInstr>
     ensures { result ≡ made homes to op size a b }
 {
-    if to < HOMES && is_copying(op, size) {
+    if to < HOMES && is_moved(op) {
         literal_word(holder(to), a)
     } else if to == RESULT {
         one_word(
@@ -354,8 +364,26 @@ pub(crate) fn push_waiting(
     }
 }
 
-/// The words up to a computation, of which a copy has none and a literal or a result waits, and where its temporary stands
-/// behind them.
+/// The words that wait.
+pub(crate) fn push_all_waiting(lines: &mut Vec<Line>, homes: Homes) -> Result<(), AllocError>
+    ensures { OnOk result (lines.new.items ≡ lines.old.items ++ map plain (all_waiting homes)) }
+{
+    push_waiting(lines, homes.before)?;
+    push_waiting(lines, homes.waiting)
+}
+
+/// The homes where a word waits behind the last one of those before.
+fn waiting_behind(homes: Homes, now: Homes, word: AlphaInstr) -> Homes
+    ensures { result ≡ record now { before = homes.waiting; waiting = Some word } }
+{
+    Homes {
+        before: homes.waiting,
+        waiting: Some(word),
+        ..now
+    }
+}
+
+/// The words up to a computation, of which a copy has none and one word waits, and where its temporary stands behind them.
 pub(crate) fn push_direct(
     alloc: Global,
     lines: &mut Vec<Line>,
@@ -377,34 +405,32 @@ pub(crate) fn push_direct(
     if let Some(register) = copied(homes, to, op, size, a) {
         return Ok(with_home(to, Some(register), homes));
     }
-    push_waiting(lines, homes.waiting)?;
     if let Some(word) = made(homes, to, op, size, a, b) {
-        let now = with_home(to, Some(holder(to)), homes);
-        return Ok(Homes {
-            waiting: Some(word),
-            ..now
-        });
+        push_waiting(lines, homes.before)?;
+        return Ok(waiting_behind(homes, with_home(to, Some(holder(to)), homes), word));
     }
     let home = if is_short_constant(to, op, size, a) {
         Some(holder(to))
     } else {
         None
     };
-    if let Some(word) = compared(homes, to, op, size, a, b) {
-        push_words(lines, &[word])?;
-    } else {
-        let words = compute_words(
-            alloc,
-            op,
-            size,
-            placed(homes, a),
-            placed(homes, b),
-            holder(to),
-        )?;
-        push_words(lines, &words)?;
-    }
     let now = with_home(to, home, homes);
+    if let Some(word) = compared(homes, to, op, size, a, b) {
+        push_waiting(lines, homes.before)?;
+        return Ok(waiting_behind(homes, now, word));
+    }
+    push_all_waiting(lines, homes)?;
+    let words = compute_words(
+        alloc,
+        op,
+        size,
+        placed(homes, a),
+        placed(homes, b),
+        holder(to),
+    )?;
+    push_words(lines, &words)?;
     Ok(Homes {
+        before: None,
         waiting: None,
         ..now
     })

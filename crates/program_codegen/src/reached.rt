@@ -6,7 +6,7 @@ ghost use Rattle.program_codegen.specs.Homes.{AreHomes, stands, settled, is_exte
 ghost use Rattle.program_codegen.specs.Programs.{IsRanged, HasWords};
 ghost use Rattle.program_codegen.specs.Words.{holder, plain, marked, copy, probing, write_by};
 
-use crate::homes::{HOMES, Homes, home_of, is_shared, push_waiting, with_home};
+use crate::homes::{HOMES, Homes, home_of, is_shared, push_all_waiting, with_home};
 use crate::lines::{Line, copy, holder, marked, plain, push_words};
 use crate::operations::{PROBE, push_two, read_by, write_by};
 use crate::points::{Site, probing};
@@ -34,6 +34,7 @@ fn settled(homes: Homes) -> Homes
     ensures { result ≡ settled homes }
 {
     Homes {
+        before: None,
         waiting: None,
         ..homes
     }
@@ -85,7 +86,7 @@ fn may_write(homes: Homes, count: u8, from: u8) -> bool
     home_of(homes, from).is_none() || count == LONGWORD
 }
 
-/// The lines of a reference, behind the word that waits, and where the temporaries stand behind them; none where another
+/// The lines of a reference, behind the words that wait, and where the temporaries stand behind them; none where another
 /// temporary stands in the register that is read into, or more than a longword is written of one.
 pub(crate) fn reach(
     alloc: Global,
@@ -100,7 +101,7 @@ pub(crate) fn reach(
     ensures are { IfOk result (λ step. IfSome step (λ made. AreHomes made.0)) }
 {
     let mut lines = Vec::new(alloc);
-    push_waiting(&mut lines, homes.waiting)?;
+    push_all_waiting(&mut lines, homes)?;
     match operation {
         Micro::Probe {
             place,

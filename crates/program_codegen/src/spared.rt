@@ -1,20 +1,16 @@
-// The words at the end of a program whose result is made where it goes.
-ghost use Rattle.std.specs.Prelude.{◌≡◌, ◌++◌, IfOk, OnOk, MatchOption, None, Some, true};
+// The words at the end of a program, where what is only copied is made where it goes.
+ghost use Rattle.std.specs.Prelude.{◌≡◌, ◌++◌, ◌==◌, ◌∷◌, IfOk, MatchOption, None, Some, length, true};
 ghost use Rattle.alpha_meaning.specs.Loops.{written};
-ghost use Rattle.program_codegen.specs.Homes.{second_reads, word_reads, is_result, copies_result, into, leaves_result, spared_word, spared_words, commit_stays, commits_result, commit_words, goes_alone, may_spare, made_commit, spared, waiting_words, end_words};
+ghost use Rattle.program_codegen.specs.Homes.{second_reads, word_reads, goes_by, is_left, is_spare, copies_from, into, leaves_made, spared_word, spared_words, rewrites, makes_home, with_spared, with_waiting, commit_stays, commit_words, end_words};
+ghost use Rattle.program_codegen.specs.Programs.{IsExit};
 
 use crate::direct::{Commit, is_choice};
-use crate::homes::{Homes, home_of, stands_in};
+use crate::homes::{Homes, home_at, home_of, stands_in};
 use crate::lines::holder;
-use alpha_encode::registers::ZERO;
+use alpha_encode::registers::{ADDRESS, TEMPORARIES, ZERO};
 use alpha_encode::{AlphaInstr, OperateOp, Second, operate_by};
 use micro_ops::Exit;
 use std::alloc::{AllocError, Global};
-
-/// The temporary of a result, and its register.
-const RESULT: u8 = 2;
-
-const RESULT_PLACE: u8 = 23;
 
 fn second_reads(second: Second, register: u8) -> bool
     ensures { result ≡ second_reads second register }
@@ -44,18 +40,41 @@ pub(crate) fn written(word: AlphaInstr) -> u8
     }
 }
 
-/// Whether a word makes the result, whatever that register held.
-fn is_result(word: AlphaInstr) -> bool
-    ensures { result ≡ is_result word }
+/// Whether it goes by what stands in the register.
+fn goes_by(exit: Exit, register: u8) -> bool
+    requires { IsExit exit }
+    ensures { result ≡ goes_by exit register }
+{
+    match exit {
+        Exit::Computed(temp) | Exit::Service(temp) | Exit::Choice { when: temp, .. } => {
+            holder(temp) == register
+        }
+        Exit::Next | Exit::Fixed(_) | Exit::Breakpoint => false,
+    }
+}
+
+/// Whether it is a temporary's register that nothing reads behind the block's words.
+fn is_left(exit: Exit, register: u8) -> bool
+    requires { IsExit exit }
+    ensures { result ≡ is_left exit register }
+{
+    TEMPORARIES <= register && register < ADDRESS && !goes_by(exit, register)
+}
+
+/// Whether what a word makes is left there, whatever that register held.
+fn is_spare(exit: Exit, word: AlphaInstr) -> bool
+    requires { IsExit exit }
+    ensures { result ≡ is_spare exit word }
 {
     match word {
-        AlphaInstr::Operate { op, rc, .. } => rc == RESULT_PLACE && !is_choice(op),
+        AlphaInstr::Operate { op, rc, .. } => is_left(exit, rc) && !is_choice(op),
         _ => false,
     }
 }
 
-fn copies_result(word: AlphaInstr) -> bool
-    ensures { result ≡ copies_result word }
+/// Whether a word copies a register as it stands, or an extended number in it.
+fn copies_from(place: u8, extended: bool, word: AlphaInstr) -> bool
+    ensures { result ≡ copies_from place extended word }
 {
     match word {
         AlphaInstr::Operate {
@@ -63,7 +82,13 @@ fn copies_result(word: AlphaInstr) -> bool
             ra,
             rb: Second::Register(register),
             ..
-        } => ra == ZERO && register == RESULT_PLACE,
+        } => ra == ZERO && register == place,
+        AlphaInstr::Operate {
+            op: OperateOp::Addl,
+            ra,
+            rb: Second::Literal(value),
+            ..
+        } => extended && ra == place && value == 0,
         _ => false,
     }
 }
@@ -78,22 +103,28 @@ fn into(to: u8, word: AlphaInstr) -> AlphaInstr
     }
 }
 
-/// Whether a word leaves what makes the result as it is, and the result.
-fn leaves_result(made: AlphaInstr, word: AlphaInstr) -> bool
-    ensures { result ≡ leaves_result made word }
+/// Whether a word leaves what is made as it is, and what makes it, unless it is the last.
+fn leaves_made(place: u8, last: bool, made: AlphaInstr, word: AlphaInstr) -> bool
+    ensures { result ≡ leaves_made place last made word }
 {
-    !word_reads(made, written(word)) && written(word) != RESULT_PLACE
+    (last || !word_reads(made, written(word))) && written(word) != place
 }
 
-/// A word that copies the result makes it, and no other may read it.
-fn spared_word(made: AlphaInstr, word: AlphaInstr) -> Option<AlphaInstr>
-    ensures { result ≡ spared_word made word }
+/// A word that copies it makes it, and no other may read it.
+fn spared_word(
+    place: u8,
+    extended: bool,
+    last: bool,
+    made: AlphaInstr,
+    word: AlphaInstr,
+) -> Option<AlphaInstr>
+    ensures { result ≡ spared_word place extended last made word }
 {
-    if !leaves_result(made, word) {
+    if !leaves_made(place, last, made, word) {
         None
-    } else if copies_result(word) {
+    } else if copies_from(place, extended, word) {
         Some(into(written(word), made))
-    } else if word_reads(word, RESULT_PLACE) {
+    } else if word_reads(word, place) {
         None
     } else {
         Some(word)
@@ -102,14 +133,17 @@ fn spared_word(made: AlphaInstr, word: AlphaInstr) -> Option<AlphaInstr>
 
 fn spared_words(
     alloc: Global,
+    place: u8,
+    extended: bool,
     made: AlphaInstr,
     words: &[AlphaInstr],
 ) -> Result<Option<Vec<AlphaInstr>>, AllocError>
-    ensures { IfOk result (λ spared. MatchOption spared (spared_words made words.now ≡ None) (λ s. spared_words made words.now ≡ Some s.items)) }
+    ensures { IfOk result (λ spared. MatchOption spared (spared_words place extended made words.now ≡ None) (λ s. spared_words place extended made words.now ≡ Some s.items)) }
 {
     let mut spared = Vec::new(alloc);
     for i in 0..words.len() {
-        match spared_word(made, words[i]) {
+        let behind = &words[i + 1..];
+        match spared_word(place, extended, behind.is_empty(), made, words[i]) {
             Some(now) => spared.push(now)?,
             None => return Ok(None),
         }
@@ -117,68 +151,74 @@ fn spared_words(
     Ok(Some(spared))
 }
 
-fn commits_result(commit: Commit) -> bool
-    ensures { result ≡ commits_result commit }
+fn rewrites(place: u8, word: Option<AlphaInstr>) -> bool
+    ensures { result ≡ rewrites place word }
 {
-    match commit {
-        Some((_register, from)) => from == RESULT,
-        None => true,
+    match word {
+        Some(word) => written(word) == place,
+        None => false,
     }
 }
 
-/// Whether it goes on by no temporary.
-fn goes_alone(exit: Exit) -> bool
-    ensures { result ≡ goes_alone exit }
+/// Whether a word's number is the low longword of its register, extended with its sign, still behind the word that comes next.
+fn makes_home(homes: Homes, word: AlphaInstr, next: Option<AlphaInstr>) -> bool
+    ensures { result ≡ makes_home homes word next }
 {
-    matches!(exit, Exit::Next | Exit::Fixed(_))
+    let place = written(word);
+    stands_in(home_at(homes, place), place) && !rewrites(place, next)
 }
 
-fn may_spare(homes: Homes, commit: Commit, exit: Exit, made: AlphaInstr) -> bool
-    ensures { result ≡ may_spare homes commit exit made }
-{
-    is_result(made)
-        && stands_in(homes.result, RESULT_PLACE)
-        && commits_result(commit)
-        && goes_alone(exit)
-}
-
-/// The words where nothing but copies of the result is wanted: each of them is made where it goes.
-fn spared(
+fn with_spared(
     alloc: Global,
-    homes: Homes,
-    commit: Commit,
     exit: Exit,
-    codes: &[AlphaInstr],
-    made: AlphaInstr,
-) -> Result<Option<Vec<AlphaInstr>>, AllocError>
-    ensures { IfOk result (λ words. MatchOption words (spared homes commit exit codes.now made ≡ None) (λ w. spared homes commit exit codes.now made ≡ Some w.items)) }
+    homes: Homes,
+    word: AlphaInstr,
+    next: Option<AlphaInstr>,
+    words: &[AlphaInstr],
+) -> Result<Vec<AlphaInstr>, AllocError>
+    requires { IsExit exit }
+    ensures { IfOk result (λ all. all.items ≡ with_spared exit homes word next words.now) }
 {
-    if !may_spare(homes, commit, exit, made) {
-        return Ok(None);
+    if is_spare(exit, word) {
+        let extended = makes_home(homes, word, next);
+        if let Some(spared) = spared_words(alloc, written(word), extended, word, words)? {
+            return Ok(spared);
+        }
     }
-    let Some(mut words) = spared_words(alloc, made, codes)? else {
-        return Ok(None);
-    };
-    if let Some((register, _from)) = commit {
-        words.push(into(register, made))?;
-    }
-    Ok(Some(words))
+    let mut all = Vec::new(alloc);
+    all.push(word)?;
+    all.extend_from_slice(words)?;
+    Ok(all)
 }
 
-/// The word that waits, those that leave the codes, and the one that writes a register.
-fn all_words(
+fn with_waiting(
+    alloc: Global,
+    exit: Exit,
+    homes: Homes,
+    word: Option<AlphaInstr>,
+    next: Option<AlphaInstr>,
+    words: Vec<AlphaInstr>,
+) -> Result<Vec<AlphaInstr>, AllocError>
+    requires { IsExit exit }
+    ensures { IfOk result (λ all. all.items ≡ with_waiting exit homes word next words.items) }
+{
+    match word {
+        Some(word) => with_spared(alloc, exit, homes, word, next, &words),
+        None => Ok(words),
+    }
+}
+
+/// The words that leave the codes, and the one that writes a register.
+fn committed(
     alloc: Global,
     homes: Homes,
     commit: Commit,
     codes: &[AlphaInstr],
 ) -> Result<Vec<AlphaInstr>, AllocError>
     requires { commit_stays commit ≡ true }
-    ensures { IfOk result (λ words. words.items ≡ waiting_words homes.waiting ++ (codes.now ++ commit_words homes commit)) }
+    ensures { IfOk result (λ words. words.items ≡ codes.now ++ commit_words homes commit) }
 {
     let mut words = Vec::new(alloc);
-    if let Some(word) = homes.waiting {
-        words.push(word)?;
-    }
     words.extend_from_slice(codes)?;
     if let Some((register, from)) = commit {
         let place = home_of(homes, from).unwrap_or(holder(from));
@@ -195,13 +235,11 @@ pub(crate) fn end_words(
     exit: Exit,
     codes: &[AlphaInstr],
 ) -> Result<Vec<AlphaInstr>, AllocError>
-    requires { commit_stays commit ≡ true }
-    ensures { IfOk result (λ words. words.items ≡ end_words homes.waiting homes commit exit codes.now) }
+    requires commit { commit_stays commit ≡ true }
+    requires exit { IsExit exit }
+    ensures { IfOk result (λ words. words.items ≡ end_words homes commit exit codes.now) }
 {
-    if let Some(made) = homes.waiting {
-        if let Some(words) = spared(alloc, homes, commit, exit, codes, made)? {
-            return Ok(words);
-        }
-    }
-    all_words(alloc, homes, commit, codes)
+    let words = committed(alloc, homes, commit, codes)?;
+    let words = with_waiting(alloc, exit, homes, homes.waiting, None, words)?;
+    with_waiting(alloc, exit, homes, homes.before, homes.waiting, words)
 }

@@ -1,11 +1,11 @@
 // Exits that are chosen by what stands in a register.
 ghost use Rattle.std.specs.Prelude.{◌≡◌, ◌≤◌, ◌++◌, ◌∷◌, IfOk, IfSome, MatchOption, OnOk, None, Some, map};
 ghost use Rattle.program_codegen.specs.Words.{plain};
-ghost use Rattle.program_codegen.specs.Homes.{bit_register, bit_test, code_test, byte_test, test_of, choice_lines, may_test, tested_exit, needed_words, next_exit, tested_at};
+ghost use Rattle.program_codegen.specs.Homes.{bit_register, bit_test, code_test, byte_test, test_of, choice_lines, may_test, tested_exit, needed_words, tested_words, next_exit, tested_at};
 ghost use Rattle.program_codegen.specs.Programs.{IsRanged, RangedToLeave};
 
 use crate::direct::{are_short_rules, exit_of};
-use crate::homes::{Homes, home_of, is_direct, made};
+use crate::homes::{Homes, home_of, is_direct, made, push_waiting};
 use crate::leaving::may_trap;
 use crate::lines::{Line, holder, plain, push_exit, push_words};
 use crate::points::Site;
@@ -167,6 +167,7 @@ pub(crate) fn tested_at(
         return Ok(None);
     };
     let mut lines = Vec::new(alloc);
+    push_waiting(&mut lines, homes.before)?;
     push_needed(&mut lines, to, test.1, homes.waiting)?;
     push_choice(&mut lines, test, taken, other)?;
     Ok(Some(lines))
