@@ -46,11 +46,11 @@ use Rattle.block_law.proofs.Rules.{Always, operates, roomy}
 use Rattle.program_codegen.specs.declared.homes.Homes.{Homes}
 use Rattle.program_codegen.specs.declared.lines.Line.{Line}
 use Rattle.program_codegen.specs.declared.points.Site.{Site}
-use Rattle.program_codegen.specs.Homes.{AreHomes, IsHome, code_by, compared, comparison, copied, direct_code, extended_first, extended_register, extended_second, home_by, home_of, is_copying, is_direct, is_shared, is_short_constant, joined_word, literal_word, long_operation, made, made_size, new_home, one_word, placed, stands_in, with_home}
+use Rattle.program_codegen.specs.Homes.{AreHomes, IsHome, code_by, compared, comparison, copied, direct_code, extended_first, extended_register, extended_second, home_by, home_of, is_copying, is_direct, is_shared, is_short_constant, joined_word, literal_word, long_operation, made, made_size, new_home, one_word, placed, stands_in, with_home, is_exact, is_sized}
 use Rattle.program_codegen.specs.Programs.{rule_of}
 use Rattle.program_codegen.specs.Words.{holder, plain}
 use Rattle.program_codegen.proofs.Computing.{argument_is, computation_runs, computed_holds, kept_apart, temp_apart, zero_apart}
-use Rattle.program_codegen.proofs.HomeHolding.{Direct, extended_home, hidden, home_is, home_self, placed_fits, placed_is, placed_value, written}
+use Rattle.program_codegen.proofs.HomeHolding.{Direct, extended_home, hidden, home_is, home_self, placed_exact, placed_fits, placed_is, placed_value, written}
 use Rattle.program_codegen.proofs.HomeNumbers.{IsExtended, extended_and, extended_below, extended_equal, extended_inverse, extended_less, extended_or, extended_small, extended_xor, zero_extended}
 use Rattle.program_codegen.proofs.Holding.{found}
 use Rattle.program_codegen.proofs.Numbers.{all_three, all_four}
@@ -219,9 +219,17 @@ made_operates homes to op size a b word e = by (made_word homes to op size a b w
 pub compared_operates : (homes : Homes) (to : ℕ) (op : MicroOp) (size : Size) (a b : Arg) (word : AlphaInstr) → compared homes to op size a b ≡ Some word → is_operate word ≡ true
 compared_operates homes to op size a b word e = subst (λ (w : AlphaInstr). is_operate w ≡ true) (sym (joined_long homes (comparison op) size a b (21 + to) word e).1.is) refl
 
-pub no_quad : (quad : Bool) (q : Option AlphaInstr) → (not quad || is_some q) ≡ true → q ≡ None → quad ≡ false
-no_quad false q either none = refl
-no_quad true q either none = absurd (cc (sym either ∙ ap is_some none))
+-- what is not made is narrow, or its arguments stand exactly
+abbrev pub Sized : Homes → Size → (a b : Arg) → Type 0
+Sized homes size a b = (is_quad size ≡ false) ⊎ ((is_exact homes a ≡ true) × (is_exact homes b ≡ true))
+
+pub sized_unmade : (homes : Homes) (size : Size) (a b : Arg) (q : Option AlphaInstr) → (not (is_quad size) || is_some q || (is_exact homes a && is_exact homes b)) ≡ true → q ≡ None → Sized homes size a b
+sized_unmade homes size a b None either none = by (is_quad size) refl either
+  where
+    by : (quad : Bool) → is_quad size ≡ quad → (not quad || false || (is_exact homes a && is_exact homes b)) ≡ true → Sized homes size a b
+    by false is either = inl is
+    by true is either = inr (and_parts (is_exact homes a) (is_exact homes b) either)
+sized_unmade homes size a b (Some word) either none = absurd (cc none)
 
 pub compared_word : (homes : Homes) (to : ℕ) (op : MicroOp) (size : Size) (a b : Arg) (word : AlphaInstr) → compared homes to op size a b ≡ Some word → (size ≡ Long) × Joined homes (comparison op) a b (21 + to) word
 compared_word homes to op size a b word e = joined_long homes (comparison op) size a b (21 + to) word e
@@ -562,7 +570,7 @@ module _ (p : Placement) (site : Site) (known : Known) (homes : Homes) (standing
   constant_value op size (arguments.Flag flag) b x held moves short = absurd (cc short)
 
   pub computes_words : (to : ℕ) (op : MicroOp) (size : Size) (a b : Arg) (g : Regs) → IsTarget (holder to) → IsArgument a → argument_fits known a ≡ true → Ready a
-      → (is_unary op ≡ false → IsArgument b × (argument_fits known b ≡ true) × Ready b) → is_quad size ≡ false → is_select op ≡ false → is_shared homes to ≡ false
+      → (is_unary op ≡ false → IsArgument b × (argument_fits known b ≡ true) × Ready b) → Sized homes size a b → is_select op ≡ false → is_shared homes to ≡ false
       → copied homes to op size a ≡ None → made homes to op size a b ≡ None
       → (done : Unit {0}) → Leaves (IsComputed op size (placed homes a) (placed homes b) (holder to) regs) (holder to) regs done g → After to op size a b g
   computes_words to op size a b g target is ok ready second narrow unselected alone none none' done l =
@@ -580,9 +588,16 @@ module _ (p : Placement) (site : Site) (known : Known) (homes : Homes) (standing
       is_value =
           l.holds
           ∙ computed_low op size (value_at regs (placed homes a)) (value a) (value_at regs (placed homes b)) (value b) (regs (21 + to)) (standing.temps to)
-          (low_from size (value_at regs (placed homes a)) (value a) narrow (placed_value p site known homes standing regs d a is ok ready))
-          (λ two. let x = second two in low_from size (value_at regs (placed homes b)) (value b) narrow (placed_value p site known homes standing regs d b x.0 x.1 x.2))
+          (first_low narrow) (λ two. let x = second two in second_low x.0 x.1 x.2 narrow)
           unselected
+        where
+          first_low : Sized homes size a b → low size (value_at regs (placed homes a)) ≡ low size (value a)
+          first_low (inl narrow) = low_from size (value_at regs (placed homes a)) (value a) narrow (placed_value p site known homes standing regs d a is ok ready)
+          first_low (inr exact) = ap (low size) (placed_exact p site known homes standing regs d a is ok ready exact.0)
+
+          second_low : IsArgument b → argument_fits known b ≡ true → Ready b → Sized homes size a b → low size (value_at regs (placed homes b)) ≡ low size (value b)
+          second_low is' ok' ready' (inl narrow) = low_from size (value_at regs (placed homes b)) (value b) narrow (placed_value p site known homes standing regs d b is' ok' ready')
+          second_low is' ok' ready' (inr exact) = ap (low size) (placed_exact p site known homes standing regs d b is' ok' ready' exact.1)
 
       scratch : (r : ℕ) → (r == 27) ≡ false → (r == (21 + to)) ≡ false → may_change (21 + to) r ≡ false
       scratch r e f = rw (f, e) refl
@@ -651,14 +666,14 @@ module _ (p : Placement) (site : Site) (known : Known) (homes : Homes) (standing
       → After to op size a b (put regs (21 + to) (computed op size (value_at regs (placed homes a)) (value_at regs (placed homes b)) (regs (21 + to))))
   given to op size a b ok target a_is b_is ready direct narrow unselected uncopied unmade =
       let x = all_four (nat_lt to 64) (argument_fits known a) (is_unary op || argument_fits known b) (not (is_select op) || holds known to) ok in
-      let y = all_three (not (is_quad size) || is_some (made homes to op size a b)) (not (is_select op)) (not (is_shared homes to)) direct in
+      let y = all_three (is_sized homes to op size a b) (not (is_select op)) (not (is_shared homes to)) direct in
       let low = target.low in
       let high = target.high in
       let last : ((21 + to) == 31) ≡ false = grind (arith, nat_tests) in
       computes_words to op size a b (put regs (21 + to) (computed op size (value_at regs (placed homes a)) (value_at regs (placed homes b)) (regs (21 + to)))) target a_is x.1
       (λ flag lt e. ready flag lt (takes_by (is_flag flag a) (is_flag flag b) (is_unary op) e))
       (λ two. (b_is two, right (is_unary op) (argument_fits known b) two x.2, λ flag lt e. ready flag lt (takes_other (is_flag flag a) (is_flag flag b) (is_unary op) two e)))
-      narrow unselected (not-true (is_shared homes to) y.2) uncopied unmade tt
+      (inl narrow) unselected (not-true (is_shared homes to) y.2) uncopied unmade tt
       (record {
         holds = put_same regs (21 + to) (computed op size (value_at regs (placed homes a)) (value_at regs (placed homes b)) (regs (21 + to))) last;
         only = λ n out. put_other regs (21 + to) (computed op size (value_at regs (placed homes a)) (value_at regs (placed homes b)) (regs (21 + to))) n (first_of (n == (21 + to)) (n == 27) out);
@@ -678,7 +693,7 @@ module _ (p : Placement) (site : Site) (known : Known) (homes : Homes) (standing
       → copied homes to op size a ≡ None → made homes to op size a b ≡ Some word → After to op size a b (effect word regs)
   makes_then to op size a b word ok a_is b_is direct none e =
       let x = all_four (nat_lt to 64) (argument_fits known a) (is_unary op || argument_fits known b) (not (is_select op) || holds known to) ok in
-      let y = all_three (not (is_quad size) || is_some (made homes to op size a b)) (not (is_select op)) (not (is_shared homes to)) direct in
+      let y = all_three (is_sized homes to op size a b) (not (is_select op)) (not (is_shared homes to)) direct in
       by (made_word homes to op size a b word e) (not-true (is_shared homes to) y.2) x.1 x.2
     where
       by : Literally to op size a word ⊎ ((to ≡ 2) × (made_size op size ≡ Long) × Joined homes (long_operation op) a b 23 word) → is_shared homes to ≡ false → argument_fits known a ≡ true → (is_unary op || argument_fits known b) ≡ true → After to op size a b (effect word regs)
@@ -691,7 +706,7 @@ module _ (p : Placement) (site : Site) (known : Known) (homes : Homes) (standing
       → copied homes to op size a ≡ None → made homes to op size a b ≡ None → compared homes to op size a b ≡ Some word → After to op size a b (effect word regs)
   compares_then to op size a b word ok target a_is b_is direct none unmade e =
       let x = all_four (nat_lt to 64) (argument_fits known a) (is_unary op || argument_fits known b) (not (is_select op) || holds known to) ok in
-      let y = all_three (not (is_quad size) || is_some (made homes to op size a b)) (not (is_select op)) (not (is_shared homes to)) direct in
+      let y = all_three (is_sized homes to op size a b) (not (is_select op)) (not (is_shared homes to)) direct in
       let m = compared_word homes to op size a b word e in
       let two = two_compared op m.1.operation m.1.is_operation in
       compares to op size a b word target a_is x.1 (b_is two) (right (is_unary op) (argument_fits known b) two x.2) none unmade e (not-true (is_shared homes to) y.2)
@@ -706,7 +721,7 @@ module _ (p : Placement) (site : Site) (known : Known) (homes : Homes) (standing
       → Always p None (length (direct_code homes to op size a b) + need) (at_place regs pc) t
   computes need pc to op size a b rest t w some ok target a_is b_is ready direct behind =
       let x = all_four (nat_lt to 64) (argument_fits known a) (is_unary op || argument_fits known b) (not (is_select op) || holds known to) ok in
-      let y = all_three (not (is_quad size) || is_some (made homes to op size a b)) (not (is_select op)) (not (is_shared homes to)) direct in
+      let y = all_three (is_sized homes to op size a b) (not (is_select op)) (not (is_shared homes to)) direct in
       let second : is_unary op ≡ false → IsArgument b × (argument_fits known b ≡ true) × Ready b = λ two. (b_is two, right (is_unary op) (argument_fits known b) two x.2, λ flag lt e. ready flag lt (takes_second flag two e)) in
       by (λ flag lt e. ready flag lt (takes_first flag e)) second x.1 y.0 (not-true (is_select op) y.1) (not-true (is_shared homes to) y.2)
       (copied homes to op size a) refl (made homes to op size a b) refl (compared homes to op size a b) refl w behind
@@ -717,7 +732,7 @@ module _ (p : Placement) (site : Site) (known : Known) (homes : Homes) (standing
       takes_second : (flag : ℕ) → is_unary op ≡ false → is_flag flag b ≡ true → takes (is_flag flag) op a b ≡ true
       takes_second flag u e = takes_other (is_flag flag a) (is_flag flag b) (is_unary op) u e
 
-      by : Ready a → (is_unary op ≡ false → IsArgument b × (argument_fits known b ≡ true) × Ready b) → argument_fits known a ≡ true → (not (is_quad size) || is_some (made homes to op size a b)) ≡ true → is_select op ≡ false → is_shared homes to ≡ false
+      by : Ready a → (is_unary op ≡ false → IsArgument b × (argument_fits known b ≡ true) × Ready b) → argument_fits known a ≡ true → (is_sized homes to op size a b) ≡ true → is_select op ≡ false → is_shared homes to ≡ false
           → (o : Option ℕ) → copied homes to op size a ≡ o → (q : Option AlphaInstr) → made homes to op size a b ≡ q → (u : Option AlphaInstr) → compared homes to op size a b ≡ u
           → Within p site.behind pc (map plain (code_by o q u (compute_code op size (placed homes a) (placed homes b) (holder to))) ++ rest)
           → ((g : Regs) → After to op size a b g → Always p None need (at_place g (pc + length (code_by o q u (compute_code op size (placed homes a) (placed homes b) (holder to))))) t)
@@ -753,4 +768,4 @@ module _ (p : Placement) (site : Site) (known : Known) (homes : Homes) (standing
             second = λ two. let s = second two in placed_fits p site known homes standing regs d b s.0 s.1;
             held = λ is_so. let both : false ≡ true = sym unselected ∙ is_so in absurd (cc both);
           })
-          (λ done g l. behind g (computes_words to op size a b g target a_is a_fits ready_a second (no_quad (is_quad size) (made homes to op size a b) narrow f) unselected alone e f done l))
+          (λ done g l. behind g (computes_words to op size a b g target a_is a_fits ready_a second (sized_unmade homes size a b (made homes to op size a b) narrow f) unselected alone e f done l))

@@ -1,6 +1,6 @@
 -- What the registers of a block hold between two operations of a program whose operands are used where they stand.
 use Rattle.std.proofs.Common.{◌≡◌, ℕ, ◌+◌, ◌-◌, ◌%◌, ◌^◌, ◌<◌, refl, sym, ap, ◌∙◌, subst, arith, Option, Some, None, Bool, true, false, eqb-true, length-set}
-use Rattle.std.specs.Prelude.{◌==◌, ◌&&◌, nat_lt, if◌then◌else◌}
+use Rattle.std.specs.Prelude.{◌==◌, ◌&&◌, nat_lt, if◌then◌else◌, is_none}
 use Rattle.std.proofs.lemmas.Bool.Decides.{nat_tests}
 use Rattle.std.proofs.lemmas.Bool.{eqb-false, ltb-true}
 use Rattle.std.proofs.lemmas.Option.{same_Some}
@@ -25,7 +25,7 @@ use Rattle.block_law.specs.Placements.{Placement}
 use Rattle.block_law.specs.Tidy.{is_kept}
 use Rattle.program_codegen.specs.declared.homes.Homes.{Homes}
 use Rattle.program_codegen.specs.declared.points.Site.{Site}
-use Rattle.program_codegen.specs.Homes.{AreHomes, IsHome, argument_in, copied, extended_register, home_of, is_copying, placed, standing_in, with_home}
+use Rattle.program_codegen.specs.Homes.{AreHomes, IsHome, argument_in, copied, extended_register, home_of, is_copying, placed, standing_in, with_home, is_exact}
 use Rattle.program_codegen.specs.Programs.{rule_of}
 use Rattle.program_codegen.proofs.Computing.{argument_is, argument_quad, checks_written, held_still, unchanged}
 use Rattle.program_codegen.proofs.HomeNumbers.{IsExtended}
@@ -280,6 +280,17 @@ module _ (p : Placement) (site : Site) where
     placed_value (Register number) is fits ready = ap (λ n. n % 2 ^ 32) (argument_is p site (hidden homes known) standing regs d.holds (Register number) is fits ready)
     placed_value (Flag flag) is fits ready = ap (λ n. n % 2 ^ 32) (argument_is p site (hidden homes known) standing regs d.holds (Flag flag) is fits ready)
     placed_value (Const value) is fits ready = refl
+
+    -- it is read as it stands
+    pub placed_exact : (a : Arg) → IsArgument a → argument_fits known a ≡ true → Ready a → is_exact homes a ≡ true → value_at regs (placed homes a) ≡ value_of_arg (found p site) standing.temps a
+    placed_exact (Temp temp) is fits ready exact = by (home_of homes temp) refl exact
+      where
+        by : (o : Option ℕ) → home_of homes temp ≡ o → is_none o ≡ true → value_at regs (standing_in o temp) ≡ standing.temps temp
+        by None e exact = argument_is p site (hidden homes known) standing regs d.holds (Temp temp) is (ap is_something (held_own homes known temp e) ∙ fits) ready
+        by (Some r) e exact = absurd (cc exact)
+    placed_exact (Register number) is fits ready exact = argument_is p site (hidden homes known) standing regs d.holds (Register number) is fits ready
+    placed_exact (Flag flag) is fits ready exact = argument_is p site (hidden homes known) standing regs d.holds (Flag flag) is fits ready
+    placed_exact (Const value) is fits ready exact = refl
 
     pub placed_fits : (a : Arg) → IsArgument a → argument_fits known a ≡ true → regs (register_at (placed homes a)) < 2 ^ 64
     placed_fits (Temp temp) is fits = by (home_of homes temp) refl

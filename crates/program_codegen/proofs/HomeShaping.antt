@@ -1,6 +1,6 @@
 -- The lines of a program whose operands are used where they stand, by themselves.
 use Rattle.std.proofs.Common.{◌≡◌, ℕ, ◌+◌, ◌-◌, ◌^◌, ◌<◌, ◌≤◌, refl, sym, ap, ap₂, ◌∙◌, subst, arith, List, [], ◌∷◌, ◌++◌, length, map, Option, Some, None, Bool, true, false, lit<, lit≤, length-append, inl, inr, append_assoc}
-use Rattle.std.specs.Prelude.{◌⊎◌, pos, ◌==◌, ◌&&◌, ◌||◌, is_some, not, nat_lt, All, option_and_then, option_map, if◌then◌else◌, unwrap_or, nat_le}
+use Rattle.std.specs.Prelude.{◌⊎◌, pos, ◌==◌, ◌&&◌, ◌||◌, is_some, not, nat_lt, All, option_and_then, option_map, if◌then◌else◌, unwrap_or, nat_le, is_none}
 use Rattle.std.specs.List.{list_all, list_any}
 use Rattle.std.proofs.lemmas.Bool.Decides.{nat_tests}
 use Rattle.std.proofs.lemmas.Bool.{ltb-true, and_from, and_parts}
@@ -47,14 +47,14 @@ use Rattle.program_codegen.proofs.HomeFronts.{probe_front, read_front, write_fro
 use Rattle.program_codegen.specs.declared.homes.Homes.{Homes}
 use Rattle.program_codegen.specs.declared.lines.Line.{Line}
 use Rattle.program_codegen.specs.declared.points.Site.{Site}
-use Rattle.program_codegen.specs.Homes.{AreHomes, IsHome, are_short_rules, code_by, commit_stays, compared, comparison, copied, direct_code, direct_lines, direct_step, end_lines, exit_behind, exit_stays, extended_first, extended_second, home_by, home_of, is_copying, is_shared, long_operation, made, may_end, moved_words, new_home, placed, standing_in, with_home, end_words, step_by, waiting_words, choice_lines, next_exit, tested_at, tested_exit, is_short_constant, made_size, needed_words, is_extended, may_write, read_home, reading, settled, stands, all_waiting}
+use Rattle.program_codegen.specs.Homes.{AreHomes, IsHome, are_short_rules, code_by, commit_stays, compared, comparison, copied, direct_code, direct_lines, direct_step, end_lines, exit_behind, exit_stays, extended_first, extended_second, home_by, home_of, is_copying, is_shared, long_operation, made, may_end, moved_words, new_home, placed, standing_in, with_home, end_words, step_by, waiting_words, choice_lines, next_exit, tested_at, tested_exit, is_short_constant, made_size, needed_words, is_extended, may_write, read_home, reading, settled, stands, all_waiting, is_exact, is_sized}
 use Rattle.program_codegen.specs.Programs.{AllHaveWords, IsExit}
 use Rattle.program_codegen.specs.Words.{departing, exit_lines, plain, trap_lines, words_of, copy, marked, probing, write_by}
 use Rattle.program_codegen.proofs.Coded.{fine_operates}
 use Rattle.program_codegen.proofs.Endings.{above_codes, codes_local, codes_quiet, departing_each, departing_goes, departing_short, departing_spares, one_word, or_nothing, traps_silent}
 use Rattle.program_codegen.proofs.Following.{opened}
 use Rattle.program_codegen.proofs.Fronts.{Shape, any_neither, quiet_kept, row_targets, row_words_are, silent_front, spares_append, targets, targets_append, words_append, free_front}
-use Rattle.program_codegen.proofs.HomeComputing.{compared_word, made_word, no_quad, Joined, Literally, copying, made_operates, compared_operates}
+use Rattle.program_codegen.proofs.HomeComputing.{compared_word, made_word, Joined, Literally, copying, made_operates, compared_operates, sized_unmade, Sized}
 use Rattle.program_codegen.proofs.HomeFollowing.{Stepped, ends_with, stepped, with_exit, row_apart, waits_same, reaching, where_false, where_true}
 use Rattle.program_codegen.proofs.HomeSomes.{chained, first_is, mapped}
 use Rattle.program_codegen.proofs.HomeTesting.{Tested, facts, tested}
@@ -163,8 +163,8 @@ module _ (homes : Homes) (are : AreHomes homes) where
   made_words AndNot size o e = some size
   made_words op size o e = absurd (cc e)
 
-  same_count : (a : Arg) (size : Size) → is_quad size ≡ false → argument_words (placed homes a) size ≡ argument_words a size
-  same_count (arguments.Temp temp) size narrow = by (home_of homes temp) size narrow
+  same_count : (a : Arg) (size : Size) → (is_quad size ≡ false) ⊎ (is_exact homes a ≡ true) → argument_words (placed homes a) size ≡ argument_words a size
+  same_count (arguments.Temp temp) size narrow = by (home_of homes temp) refl size narrow
     where
       none : (size : Size) → is_quad size ≡ false → (c : Bool) (r : ℕ) → argument_words (if c then arguments.Register r else arguments.Temp (r - 21)) size ≡ 0
       none Byte narrow true r = refl
@@ -173,9 +173,10 @@ module _ (homes : Homes) (are : AreHomes homes) where
       none Quad narrow true r = absurd (cc narrow)
       none size narrow false r = refl
 
-      by : (o : Option ℕ) (size : Size) → is_quad size ≡ false → argument_words (standing_in o temp) size ≡ 0
-      by None size narrow = refl
-      by (Some r) size narrow = none size narrow (nat_lt r 15) r
+      by : (o : Option ℕ) → home_of homes temp ≡ o → (size : Size) → (is_quad size ≡ false) ⊎ (is_none (home_of homes temp) ≡ true) → argument_words (standing_in o temp) size ≡ 0
+      by None e size narrow = refl
+      by (Some r) e size (inl narrow) = none size narrow (nat_lt r 15) r
+      by (Some r) e size (inr exact) = absurd (cc (sym exact ∙ ap is_none e))
   same_count (arguments.Register number) size narrow = refl
   same_count (arguments.Flag flag) size narrow = refl
   same_count (arguments.Const value) size narrow = refl
@@ -194,7 +195,7 @@ module _ (homes : Homes) (are : AreHomes homes) where
   same_literal (arguments.Flag flag) = refl
   same_literal (arguments.Const value) = refl
 
-  same_second : (op : MicroOp) (b : Arg) (size : Size) → is_quad size ≡ false → second_words op (placed homes b) size ≡ second_words op b size
+  same_second : (op : MicroOp) (b : Arg) (size : Size) → (is_quad size ≡ false) ⊎ (is_exact homes b ≡ true) → second_words op (placed homes b) size ≡ second_words op b size
   same_second op b size narrow = ap₂ (λ (n : ℕ) (literal : Bool). if is_unary op || (has_literal op && literal) then 0 else n) (same_count b size narrow) (same_literal b)
 
   -- its words have encodings, make no access, and are no more than are counted
@@ -203,7 +204,7 @@ module _ (homes : Homes) (are : AreHomes homes) where
     pub silent : list_all is_silent words ≡ true
     pub few : length words ≤ most
 
-  pub direct_words : (to : ℕ) (op : MicroOp) (size : Size) (a b : Arg) → IsTarget (21 + to) → IsArgument a → (is_unary op ≡ false → IsArgument b) → (not (is_quad size) || is_some (made homes to op size a b)) ≡ true → Words (count_of (Compute to op size a b)) (direct_code homes to op size a b)
+  pub direct_words : (to : ℕ) (op : MicroOp) (size : Size) (a b : Arg) → IsTarget (21 + to) → IsArgument a → (is_unary op ≡ false → IsArgument b) → (is_sized homes to op size a b) ≡ true → Words (count_of (Compute to op size a b)) (direct_code homes to op size a b)
   direct_words to op size a b target a_is b_is either = by (copied homes to op size a) refl (made homes to op size a b) refl (compared homes to op size a b) refl
     where
       by : (o : Option ℕ) → copied homes to op size a ≡ o → (q : Option AlphaInstr) → made homes to op size a b ≡ q → (u : Option AlphaInstr) → compared homes to op size a b ≡ u → Words (count_of (Compute to op size a b)) (code_by o q u (compute_code op size (placed homes a) (placed homes b) (21 + to)))
@@ -262,15 +263,23 @@ module _ (homes : Homes) (are : AreHomes homes) where
           own n = let same : (n == n) ≡ true = grind (arith, nat_tests) in rw same refl
       by None e None f None h =
           let placed_b : is_unary op ≡ false → IsArgument (placed homes b) = λ two. placed_is homes are b (b_is two) in
-          let narrow = no_quad (is_quad size) (made homes to op size a b) either f in
-          let first = same_count a size narrow in
-          let second = same_second op b size narrow in
+          let sized = sized_unmade homes size a b (made homes to op size a b) either f in
+          let first = same_count a size (one sized) in
+          let second = same_second op b size (other sized) in
           let most = computed_length op size (placed homes a) (placed homes b) (21 + to) in
           record {
             encodable = computed_encodable (placed homes a) (placed homes b) (21 + to) (placed_is homes are a a_is) target op size placed_b;
             silent = list_all_of (changes_only (may_change (21 + to))) is_silent (changes_silent (21 + to) target) (compute_code op size (placed homes a) (placed homes b) (21 + to)) (computed_writes (placed homes a) (placed homes b) (21 + to) (placed_is homes are a a_is) target op size placed_b);
             few = omega arith;
           }
+        where
+          one : Sized homes size a b → (is_quad size ≡ false) ⊎ (is_exact homes a ≡ true)
+          one (inl narrow) = inl narrow
+          one (inr exact) = inr exact.0
+
+          other : Sized homes size a b → (is_quad size ≡ false) ⊎ (is_exact homes b ≡ true)
+          other (inl narrow) = inl narrow
+          other (inr exact) = inr exact.1
 
 -- ---- the end
 module _ (site : Site) (codes : List AlphaInstr) (after_fits : site.after < 2 ^ 32) (encodable : All IsEncodable codes) (few : length codes ≤ 32) (only : list_all (fine (may_be_written site.sources)) codes ≡ true) where
@@ -444,7 +453,7 @@ module _ (site : Site) (codes : List AlphaInstr) (after_fits : site.after < 2 ^ 
           waits.before.encodable waits.before.silent (omega arith) (omega arith) behind
 
       by_words : (rest : List Line) → ((homes' : Homes) → AreHomes homes' → Waiting homes' → direct_lines site codes homes' program ≡ Some rest → ShapeOf changed homes' program rest)
-          → AreHomes homes_then → (target : IsTarget (21 + to)) → IsArgument a → (is_unary op ≡ false → IsArgument b) → (not (is_quad size) || is_some (made homes to op size a b)) ≡ true
+          → AreHomes homes_then → (target : IsTarget (21 + to)) → IsArgument a → (is_unary op ≡ false → IsArgument b) → (is_sized homes to op size a b) ≡ true
           → (o : Option ℕ) → copied homes to op size a ≡ o → (q : Option AlphaInstr) → made homes to op size a b ≡ q → (u : Option AlphaInstr) → compared homes to op size a b ≡ u
           → direct_lines site codes (step_by o q u homes.before homes.waiting homes_then (direct_code homes to op size a b)).0 program ≡ Some rest
           → Shape site changed codes (addresses_of site.after program) (count_of (Compute to op size a b) + program_words site.sources program + 59 + waiting_count homes) (map plain (step_by o q u homes.before homes.waiting homes_then (direct_code homes to op size a b)).1 ++ rest)
@@ -493,7 +502,7 @@ module _ (site : Site) (codes : List AlphaInstr) (after_fits : site.after < 2 ^ 
           (record { each = behind.each; kept = behind.kept; goes = behind.goes; writes = behind.writes; short = omega arith })
       by step rest is shape false out s =
           let has = have.0 out in
-          let direct = all_three (not (is_quad size) || is_some (made homes to op size a b)) (not (is_select op)) (not (is_shared homes to)) (s.direct refl) in
+          let direct = all_three (is_sized homes to op size a b) (not (is_select op)) (not (is_shared homes to)) (s.direct refl) in
           subst (λ (step : Homes × List AlphaInstr). Shape site changed codes (addresses_of site.after program) (count_of (Compute to op size a b) + program_words site.sources program + 59 + waiting_count homes) (map plain step.1 ++ rest)) (sym s.is)
           (by_words rest shape (homes_are to (new_home homes to op size a b) homes (new_home_is homes are to op size a b has.1) are) has.0 has.1 has.2 direct.0 (copied homes to op size a) refl (made homes to op size a b) refl (compared homes to op size a b) refl
           (subst (λ (step : Homes × List AlphaInstr). direct_lines site codes step.0 program ≡ Some rest) s.is is))

@@ -478,11 +478,18 @@ direct_end site codes homes commit exit =
     if may_end site homes commit exit then option_map (end_lines site homes commit exit) (moved_words homes codes) else None
 
 -- ---- the whole
--- a computation on longwords at most, or one that they give the same, that doesn't read what it writes, and into whose register
--- none has its home
+-- an argument that stands exactly where it is read
+abbrev pub is_exact : Homes → Arg → Bool
+is_exact homes (arguments.Temp temp) = is_none (home_of homes temp)
+is_exact homes arg = true
+
+-- on longwords at most, or one that they give the same, or of arguments that stand exactly
+abbrev pub is_sized : Homes → (to : ℕ) → MicroOp → Size → (a b : Arg) → Bool
+is_sized homes to op size a b = not (is_quad size) || is_some (made homes to op size a b) || (is_exact homes a && is_exact homes b)
+
+-- such a computation, that doesn't read what it writes, and into whose register none has its home
 abbrev pub is_direct : Homes → (to : ℕ) → MicroOp → Size → (a b : Arg) → Bool
-is_direct homes to op size a b =
-    (not (is_quad size) || is_some (made homes to op size a b)) && not (is_select op) && not (is_shared homes to)
+is_direct homes to op size a b = is_sized homes to op size a b && not (is_select op) && not (is_shared homes to)
 
 -- the words of a computation, of which one that is left out has none, and where the temporaries stand behind them
 abbrev pub direct_step : CodeSources → Homes → (to : ℕ) → MicroOp → Size → (a b : Arg) → (behind : List Micro) → Option (Homes × List AlphaInstr)

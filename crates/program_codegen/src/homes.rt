@@ -3,7 +3,7 @@ ghost use Rattle.std.specs.Prelude.{◌≡◌, ◌++◌, ◌≤◌, OnOk, IfOk, 
 ghost use Rattle.compute_sequences.specs.Registers.{IsArgument, IsTarget};
 ghost use Rattle.compute_sequences.specs.Words.{is_moved};
 ghost use Rattle.micro_ops.specs.Uses.{is_unary};
-ghost use Rattle.program_codegen.specs.Homes.{AreHomes, home_of, with_home, all_waiting, home_at, stands_in, is_shared, argument_in, standing_in, placed, extended_register, extended_second, extended_first, long_operation, comparison, joined_word, one_word, is_copying, copied, is_logical, made_size, made, compared, new_home, direct_code, is_direct, waiting_words, direct_by, is_short_constant, literal_word};
+ghost use Rattle.program_codegen.specs.Homes.{AreHomes, home_of, with_home, all_waiting, home_at, stands_in, is_shared, argument_in, standing_in, placed, extended_register, extended_second, extended_first, long_operation, comparison, joined_word, one_word, is_copying, copied, is_logical, made_size, made, compared, new_home, direct_code, is_direct, waiting_words, direct_by, is_short_constant, literal_word, is_exact, is_sized};
 ghost use Rattle.program_codegen.specs.Words.{holder, plain};
 
 use crate::lines::{Line, holder, push_words};
@@ -340,13 +340,31 @@ fn is_short_constant(to: u8, op: MicroOp, size: Size, a: Arg) -> bool
     to < HOMES && is_copying(op, size) && matches!(a, Arg::Const(value) if value < SHORT)
 }
 
-/// Whether a computation is on longwords at most, or one that they give the same, doesn't read what it writes, and none has its
-/// home in its register.
+/// Whether an argument stands exactly where it is read.
+fn is_exact(homes: Homes, arg: Arg) -> bool
+    ensures { result ≡ is_exact homes arg }
+{
+    match arg {
+        Arg::Temp(temp) => home_of(homes, temp).is_none(),
+        _ => true,
+    }
+}
+
+/// Whether a computation is on longwords at most, or one that they give the same, or of arguments that stand exactly.
+fn is_sized(homes: Homes, to: u8, op: MicroOp, size: Size, a: Arg, b: Arg) -> bool
+    ensures { result ≡ is_sized homes to op size a b }
+{
+    !matches!(size, Size::Quad)
+        || made(homes, to, op, size, a, b).is_some()
+        || (is_exact(homes, a) && is_exact(homes, b))
+}
+
+/// Whether it is such a computation, doesn't read what it writes, and none has its home in its register.
 pub(crate) fn is_direct(homes: Homes, to: u8, op: MicroOp, size: Size, a: Arg, b: Arg) -> bool
     requires { to ≤ 5 }
     ensures { result ≡ is_direct homes to op size a b }
 {
-    (!matches!(size, Size::Quad) || made(homes, to, op, size, a, b).is_some())
+    is_sized(homes, to, op, size, a, b)
         && !matches!(op, MicroOp::SelectNonzero)
         && !is_shared(homes, to)
 }
