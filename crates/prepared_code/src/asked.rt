@@ -93,8 +93,9 @@ impl<'a> Prepared<'a> {
         }
     }
 
+    /// The same of a word whose instruction is known.
     #[inline(always)]
-    fn asked_by(&self, cpu: &Cpu, op: MemoryOp, ra: u8, rb: u8, disp: i16) -> Option<Asked>
+    pub fn asked_by(&self, cpu: &Cpu, op: MemoryOp, ra: u8, rb: u8, disp: i16) -> Option<Asked>
         requires ra { ra < 32 }
         requires rb { rb < 32 }
         requires few { cpu.now.pc < most_words }

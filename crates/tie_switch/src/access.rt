@@ -1,6 +1,9 @@
 // Accesses inside a block, made with the registers in place.
 ghost use Rattle.std.specs.Prelude.{◌≡◌, ◌≢◌, ◌≤◌, ◌<◌, ◌+◌, ◌↔◌, ◌⊎◌, ℕ, false, true, Some, IfSome, IfNone, is_some};
+ghost use Rattle.alpha_encode.specs.declared.instr.AlphaInstr.TheVariants.{Memory};
 ghost use Rattle.alpha_machine.specs.Step.{state_of};
+ghost use Rattle.alpha_meaning.specs.Pieces.{most_words};
+ghost use Rattle.block_law.specs.Translations.{fetch_of};
 ghost use Rattle.memory_core.specs.Limits.{CountsPuts};
 ghost use Rattle.prepared_code.specs.Asks.{asks_inside};
 ghost use Rattle.system_model.specs.Legal.{spent};
@@ -18,6 +21,7 @@ use crate::processor::Processor;
 use crate::request::request_by;
 use crate::setting::Setting;
 use crate::turn::Turn;
+use alpha_encode::{AlphaInstr, MemoryOp};
 use memory_core::{Memory, Reply};
 use prepared_code::Prepared;
 
@@ -51,7 +55,57 @@ impl Course {
         ensures read { KeepsRead (M.between memory.old) (M.seen memory.old) (M.seen memory.new) }
         ensures allowed { CountsPuts (M.set_up memory.old).limit → result ≢ Some Turn.Ended }
     {
-        let Some(asked) = prepared.asked(&self.cpu) else {
+        let Some(AlphaInstr::Memory { op, ra, rb, disp }) = prepared.instr_at(self.cpu.pc) else {
+            return None;
+        };
+        let place = (ra, rb, disp);
+        match op {
+            MemoryOp::Ldl => self.ask(setting, prepared, thread, memory, MemoryOp::Ldl, place),
+            MemoryOp::Stl => self.ask(setting, prepared, thread, memory, MemoryOp::Stl, place),
+            MemoryOp::LdqL => self.ask(setting, prepared, thread, memory, MemoryOp::LdqL, place),
+            MemoryOp::StqC => self.ask(setting, prepared, thread, memory, MemoryOp::StqC, place),
+            MemoryOp::LdqU => self.ask(setting, prepared, thread, memory, MemoryOp::LdqU, place),
+            MemoryOp::Ldbu => self.ask(setting, prepared, thread, memory, MemoryOp::Ldbu, place),
+            MemoryOp::Stb => self.ask(setting, prepared, thread, memory, MemoryOp::Stb, place),
+            _ => self.ask(setting, prepared, thread, memory, op, place),
+        }
+    }
+
+    // The same, where the word is that access: by its registers and displacement.
+    #[inline(always)]
+    fn ask<M: Memory>(
+        &mut self,
+        setting: Setting<'_>,
+        prepared: &Prepared<'_>,
+        thread: u8,
+        memory: &mut M,
+        op: MemoryOp,
+        place: (u8, u8, i16),
+    ) -> Option<Turn>
+        requires ra { place.0 < 32 }
+        requires rb { place.1 < 32 }
+        requires few { self.old.cpu.pc < most_words }
+        requires fetched { fetch_of prepared.now.code.words self.old.cpu.pc ≡ Some (Memory op place.0 place.1 place.2) }
+        requires code { prepared.now.code ≡ setting.code.now }
+        requires pages { (M.set_up memory.old).image.pages ≡ setting.pages.now }
+        requires serves { M.serves memory.old thread }
+        requires has_step { HasCourseStep (setting_of setting) (M.set_up memory.old) thread self.old }
+        ensures set_up { M.set_up memory.new ≡ M.set_up memory.old }
+        ensures place { (memory.new ≡ memory.old) ⊎ M.same memory.old memory.new }
+        ensures serves { (thread : ℕ) → M.serves memory.old thread ↔ M.serves memory.new thread }
+        ensures just { is_some result ≡ asks_inside prepared.now (state_of self.old.cpu) }
+        ensures stays { IfNone result ((self.new ≡ self.old) × (memory.new ≡ memory.old)) }
+        ensures landed { self.new.landed ≡ self.old.landed }
+        ensures retired { self.new.retired ≡ self.old.retired }
+        ensures made { result ≡ Some Turn.Went → (before : VaxState) (interpreted steps : ℕ) → Makes (model.turn (setting_of setting.entry) (course_of thread before interpreted self.old steps))
+            (M.set_up memory.old) (M.between memory.old) (course_of thread before interpreted self.old steps) (course_of thread before interpreted self.new (steps + 1)) (M.seen memory.old) (M.seen memory.new) }
+        ensures full { result ≡ Some Turn.Ended → (before : VaxState) (interpreted steps : ℕ) → Makes (model.turn (setting_of setting.entry) (course_of thread before interpreted self.old steps))
+            (M.set_up memory.old) (M.between memory.old) (course_of thread before interpreted self.old steps) (spent (course_of thread before interpreted self.old steps)) (M.seen memory.old) (M.seen memory.new) }
+        ensures ended { result ≡ Some Turn.Ended → self.new ≡ self.old }
+        ensures read { KeepsRead (M.between memory.old) (M.seen memory.old) (M.seen memory.new) }
+        ensures allowed { CountsPuts (M.set_up memory.old).limit → result ≢ Some Turn.Ended }
+    {
+        let Some(asked) = prepared.asked_by(&self.cpu, op, place.0, place.1, place.2) else {
             return None;
         };
         let request = request_by(setting, thread, self.retired, asked.access);

@@ -15,6 +15,7 @@ use alpha_meaning::{AlphaAccess, AlphaKind, stores};
 use memory_core::{Change, Kind, Request};
 use vax_form::Pages;
 
+#[inline(always)]
 fn kind_of(kind: AlphaKind) -> Kind
     ensures { result ≡ kind_of kind }
 {
@@ -27,6 +28,7 @@ fn kind_of(kind: AlphaKind) -> Kind
 }
 
 /// So many bytes of a value from that byte of a quadword on.
+#[inline(always)]
 pub(crate) fn stored(place: u8, count: u8, value: u64) -> Change
     requires place { place < 8 }
     requires within { place + count ≤ 8 }
@@ -42,6 +44,7 @@ pub(crate) fn stored(place: u8, count: u8, value: u64) -> Change
 }
 
 /// A store changes its bytes of the quadword.
+#[inline(always)]
 fn change_of(access: AlphaAccess) -> Change
     requires access { IsAccess access }
     requires aligned { access.address % access.bytes ≡ 0 }
@@ -71,6 +74,7 @@ pub(crate) fn awaits(waits: bool, request: &Request) -> bool
 }
 
 /// The request of an access by a thread that has retired so many instructions.
+#[inline(always)]
 pub(crate) fn request_by(
     setting: Setting<'_>,
     thread: u8,

@@ -7,7 +7,7 @@ use Rattle.tie_switch.specs.Courses.{course_of}
 use Rattle.tie_switch.specs.Seen.{setting_of}
 use Rattle.tie_switch.proofs.Asks.{is_access, is_aligned}
 use Rattle.tie_switch.proofs.Along.{defined_at, made_reads, makes_access, makes_none, none_refused, refused_reads}
-use Rattle.tie_switch.proofs.course.Course.access.Goals as goal
+use Rattle.tie_switch.proofs.course.Course.ask.Goals as goal
 
 pub request_by-request-requires-clause-access : goal.request_by-request-requires-clause-access
 request_by-request-requires-clause-access g c = is_access c.args.prepared.now (state_of c.args.self.now.cpu) c.in-Some.asked c.in-Some.ensures.asks
