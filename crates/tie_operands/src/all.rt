@@ -4,10 +4,13 @@ ghost use Rattle.std.specs.Prelude.{◌≡◌, true};
 ghost use Rattle.vax_form.specs.declared.instr.Access.TheVariants.{Read};
 ghost use Rattle.vax_form.specs.declared.instr.Operand.TheVariants.{Unused};
 ghost use Rattle.vax_meaning.specs.Evaluation.{evaluate, nothings, operands_from};
+ghost use Rattle.vax_form.specs.Size.{bytes_of};
+ghost use Rattle.vax_meaning.specs.Memory.{low_bytes};
+ghost use Rattle.vax_meaning.specs.Operands.{register_value};
 ghost use Rattle.vax_meaning.specs.Play.{Plays, Uses};
 
 use vax_form::{Access, Instr, Operand, Row, Size, Stop};
-use vax_meaning::{Cursor, Evaluated, Location, NOTHING, find, low_bytes, obtain};
+use vax_meaning::{Cursor, Evaluated, Location, NOTHING, find, low_bytes, obtain, register_of};
 
 /// Evaluates an operand that is found first.
 fn found_first(
@@ -23,9 +26,24 @@ fn found_first(
     obtain(cursor, access, size, operand, location)
 }
 
+/// What a register operand has, in the bytes of its size.
+#[inline(always)]
+fn value_there(cursor: &Cursor, number: u8, size: Size) -> u64
+    ensures { result ≡ low_bytes (bytes_of size) (register_value number (bytes_of size) cursor.now.state) }
+{
+    let first = u64::from(register_of(cursor, number));
+    match size {
+        Size::Quad => {
+            let second = u64::from(register_of(cursor, number.saturating_add(1)));
+            low_bytes(8, first + second * 0x1_0000_0000)
+        }
+        _ => low_bytes(size.bytes(), first),
+    }
+}
+
 /// Evaluates the operand of a place.
 #[inline(always)]
-#[tactic(auto, unfolding(vax_meaning::specs::Evaluation::find, vax_meaning::specs::Evaluation::obtain, vax_meaning::specs::Evaluation::read_found, vax_meaning::specs::Operands::locate))]
+#[tactic(auto, unfolding(vax_meaning::specs::Evaluation::find, vax_meaning::specs::Evaluation::obtain, vax_meaning::specs::Evaluation::read_found, vax_meaning::specs::Operands::locate, vax_meaning::specs::Operands::modify_at))]
 fn evaluated(
     cursor: &mut Cursor,
     access: Access,
@@ -41,12 +59,14 @@ fn evaluated(
             location: Location::InMemory(0),
             value: low_bytes(size.bytes(), value),
         }),
-        (Access::Read, Operand::Register(number)) => {
-            obtain(cursor, access, size, operand, Location::InRegister(number))
-        }
-        (Access::Modify, Operand::Register(number)) => {
-            obtain(cursor, access, size, operand, Location::InRegister(number))
-        }
+        (Access::Read, Operand::Register(number)) => Ok(Evaluated {
+            location: Location::InMemory(0),
+            value: value_there(cursor, number, size),
+        }),
+        (Access::Modify, Operand::Register(number)) => Ok(Evaluated {
+            location: Location::InRegister(number),
+            value: value_there(cursor, number, size),
+        }),
         (Access::Write, Operand::Register(number)) => Ok(Evaluated {
             location: Location::InRegister(number),
             value: 0,

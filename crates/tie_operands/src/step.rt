@@ -18,7 +18,7 @@ pub enum TieStep {
 
 impl TieStep {
     ghost use Rattle.vax_form.specs.Tree.{ending, ending_outcome, stop_outcome};
-    ghost use Rattle.tie_operands.specs.Steps.{step_by, step_of};
+    ghost use Rattle.tie_operands.specs.Steps.{step_of};
 
     /// The step at which an instruction ends.
     pub fn ended(end: End, state: &VaxState) -> TieStep
@@ -28,17 +28,6 @@ impl TieStep {
             End::Done => TieStep::Retired(*state),
             End::Exits => TieStep::Exited(*state),
             End::Traps(kind) => TieStep::Raised(Exception::Arithmetic(kind), *state),
-        }
-    }
-
-    /// The step of an instruction that was gone through, from one state to another.
-    #[inline(always)]
-    pub fn gone_through(run: Result<End, Stop>, before: &VaxState, after: &VaxState) -> TieStep
-        ensures { result ≡ step_by before.now run after.now }
-    {
-        match run {
-            Ok(end) => TieStep::ended(end, after),
-            Err(stop) => TieStep::stopped(stop, before),
         }
     }
 

@@ -1,6 +1,6 @@
 // A long instruction without strings, gone through with the replies so far.
-ghost use Rattle.std.specs.Prelude.{◌≡◌, ◌<◌, ℕ, Some, length};
-ghost use Rattle.tie_operands.specs.Steps.{step_of, FailsByFault, IfWant};
+ghost use Rattle.std.specs.Prelude.{◌≡◌, ◌<◌, length};
+ghost use Rattle.tie_operands.specs.Steps.{step_by, step_of, FailsByFault, IfWant};
 ghost use Rattle.tie_strings.specs.Bodies.{long_of, plain_of};
 ghost use Rattle.vax_form.specs.Tree.{answer, instruction_tree, outcome};
 ghost use Rattle.vax_long.specs.Instructions.{long_script};
@@ -8,8 +8,8 @@ ghost use Rattle.vax_meaning.specs.Play.{Plays, Uses};
 
 use crate::body::Plain;
 use crate::told::told;
-use tie_operands::{TieStep, all_operands};
-use vax_form::{End, Instr, LongOperation, Operation, Pages, Stop, VaxState};
+use tie_operands::all_operands;
+use vax_form::{End, Instr, LongOperation, Operation, Stop};
 use vax_meaning::Cursor;
 
 /// The operation, where it has no strings.
@@ -56,39 +56,24 @@ impl Plain {
         let values = all_operands(cursor, &row, instr)?;
         self.run(cursor, instr, &values)
     }
-
-    // Goes through it from its begin, with the replies to its references so far.
-    fn play(self, cursor: &mut Cursor, before: &VaxState, instr: &Instr) -> TieStep
-        requires { cursor.old.state ≡ before.now }
-        ensures answers { result ≡ step_of (outcome before.now (answer cursor.old.pages.now (instruction_tree cursor.old.pages.now (long_script (long_of self) instr.now) before.now) cursor.old.replies.now)) }
-        ensures faults { FailsByFault (answer cursor.old.pages.now (instruction_tree cursor.old.pages.now (long_script (long_of self) instr.now) before.now) cursor.old.replies.now) }
-        ensures few { IfWant result (length cursor.old.replies.now < 60) }
-    {
-        let run = self.run_whole(cursor, instr);
-        TieStep::gone_through(run, before, &cursor.state)
-    }
 }
 
-/// What a long instruction without strings comes to with the replies to its references so far: it is gone through from its
-/// begin, over the state before it, unless their number tells what it wants.
-pub fn played_long(
-    before: &VaxState,
-    operation: Plain,
-    instr: &Instr,
-    pages: &Pages,
-    replies: &[u64],
-) -> TieStep
-    ensures answers { result ≡ step_of (outcome before.now (answer pages.now (instruction_tree pages.now (long_script (long_of operation) instr.now) before.now) replies.now)) }
-    ensures faults { FailsByFault (answer pages.now (instruction_tree pages.now (long_script (long_of operation) instr.now) before.now) replies.now) }
-    ensures few { IfWant result (length replies.now < 60) }
+/// Goes through a long instruction without strings from its begin with the replies to its references so far: from the state
+/// before it to the one behind it. Where their number tells what it wants, it is not gone through.
+pub fn played_long(cursor: &mut Cursor, operation: Plain, instr: &Instr) -> Result<End, Stop>
+    ensures answers { step_by cursor.old.state result cursor.new.state
+        ≡ step_of (outcome cursor.old.state (answer cursor.old.pages.now (instruction_tree cursor.old.pages.now (long_script (long_of operation) instr.now) cursor.old.state) cursor.old.replies.now)) }
+    ensures faults { FailsByFault (answer cursor.old.pages.now (instruction_tree cursor.old.pages.now (long_script (long_of operation) instr.now) cursor.old.state) cursor.old.replies.now) }
+    ensures few { IfWant (step_by cursor.old.state result cursor.new.state) (length cursor.old.replies.now < 60) }
 {
-    if let Some(reference) = told(before, operation, instr, pages, replies) {
-        return TieStep::Want(reference);
+    match told(
+        &cursor.state,
+        operation,
+        instr,
+        cursor.pages,
+        cursor.replies,
+    ) {
+        Some(reference) => Err(Stop::Wants(reference)),
+        None => operation.run_whole(cursor, instr),
     }
-    let mut cursor = Cursor {
-        state: *before,
-        pages,
-        replies,
-    };
-    operation.play(&mut cursor, before, instr)
 }

@@ -131,10 +131,10 @@ plain_comes pages thread before instr operation plain replies given step is some
 
 -- and its step, where the handler takes its exceptions
 pub handled_comes : (pages : Pages) (thread : ℕ) (before : VaxState) (there : Found) (replies : List ℕ) (step : TieStep) (result : Step) → ComesTo pages thread before there replies step
-    → ((state : VaxState) (a : Answer) → step ≡ made.step_of (outcome state a) → FailsByFault a → result ≡ step_of (handled_answer state a)) → IfWants result (IsWant step)
+    → ((a : Answer) → step ≡ made.step_of (outcome before a) → FailsByFault a → result ≡ step_of (handled_answer before a)) → IfWants result (IsWant step)
     → StepsBy pages thread before there replies result
 handled_comes pages thread before there replies step result comes handled wants = record {
-  answers = handled before (answer pages (instruction_tree pages (script_found there thread) before) replies) comes.answers comes.faults;
+  answers = handled (answer pages (instruction_tree pages (script_found there thread) before) replies) comes.answers comes.faults;
   few = if_wants result step wants (λ (few : length replies < 60). few) comes.few;
   whole = comes.whole;
 }

@@ -16,7 +16,7 @@ use crate::place::{Ending, Last};
 use crate::played::Played;
 use tie_operands::TieStep;
 use tie_strings::LongTie;
-use vax_form::{Exception, Instr, Pages, Pending, Reference, VaxState};
+use vax_form::{End, Exception, Instr, Pages, Pending, Reference, Stop, VaxState};
 
 /// What a step comes to.
 #[derive(Clone, Copy)]
@@ -56,7 +56,7 @@ impl Came {
     ghost use Rattle.vax_form.specs.Tree.{Answer, outcome};
     ghost use Rattle.vax_form.specs.declared.state.VaxState.{VaxState};
     ghost use Rattle.tie_operands.specs.Steps as ties;
-    ghost use Rattle.tie_operands.specs.Steps.{FailsByFault};
+    ghost use Rattle.tie_operands.specs.Steps.{FailsByFault, step_by};
     ghost use Rattle.tie_switch.specs.Interpreted.{handled_answer, step_of, step_with, IfWants, IsWant};
 
     /// The step of an instruction whose exceptions the handler takes, by the instruction's own. What is raised carries
@@ -80,6 +80,35 @@ impl Came {
             TieStep::Raised(exception, state) => {
                 Came::Leaves(raised_to(*exception, state, after))
             }
+        }
+    }
+
+    /// The same of one that was gone through, from one state to another.
+    #[inline(always)]
+    pub(crate) fn gone_through(
+        run: Result<End, Stop>,
+        before: &VaxState,
+        behind: &VaxState,
+        after: &mut VaxState,
+    ) -> Came
+        ensures answers { (answer : Answer) → step_by before.now run behind.now ≡ ties.step_of (outcome before.now answer) → FailsByFault answer
+            → step_with result after.new ≡ step_of (handled_answer before.now answer) }
+        ensures wants { IfWants (step_with result after.new) (IsWant (step_by before.now run behind.now)) }
+    {
+        match run {
+            Ok(End::Done) => {
+                *after = *behind;
+                Came::Leaves(Ending::Finish)
+            }
+            Ok(End::Exits) => {
+                *after = *behind;
+                Came::Leaves(Ending::Exit)
+            }
+            Ok(End::Traps(kind)) => {
+                Came::Leaves(raised_to(Exception::Arithmetic(kind), behind, after))
+            }
+            Err(Stop::Wants(reference)) => Came::Wants(reference),
+            Err(Stop::Fails(exception)) => Came::Leaves(raised_to(exception, before, after)),
         }
     }
 

@@ -7,6 +7,7 @@ ghost use Rattle.vax_form.specs.Grammar.{instruction};
 ghost use Rattle.vax_form.specs.GrammarFound.{found};
 ghost use Rattle.vax_form.specs.Tree.{answer};
 ghost use Rattle.vax_form.specs.declared.state.VaxState.{VaxState};
+ghost use Rattle.vax_long.specs.Instructions.{long_operation};
 ghost use Rattle.vax_long.specs.Pending.{moment_at};
 
 use crate::interpreted::Came;
@@ -14,11 +15,23 @@ use crate::known::{decoded_at, place_of};
 use tie_interpreter::{played_instr, played_short};
 use tie_strings::{plain_of, played_long};
 use vax_decode::Decoded;
-use vax_form::{Instr, Pages, VaxState};
-use vax_long::long_operation_of;
+use vax_form::{Instr, LongOperation, Operation, Pages, VaxState, operation_of};
+use vax_meaning::Cursor;
 
 /// An instruction without strings makes so many references at most.
 const REPLIES_OF_INSTRUCTION: usize = 60;
+
+// The long operation, where it is one.
+#[inline(always)]
+#[tactic(auto, unfolding(vax_long::specs::Instructions::long_operation))]
+fn long_among(operation: Option<Operation>) -> Option<LongOperation>
+    ensures { result ≡ long_operation operation }
+{
+    match operation {
+        Some(Operation::Long(long)) => Some(long),
+        _ => None,
+    }
+}
 
 /// An instruction with the state before it and the replies so far, of which there are `count`. One with strings has none.
 #[derive(Clone, Copy, Debug)]
@@ -104,15 +117,21 @@ impl Played {
         ensures comes { IfSome result (λ came. StepsBy pages.now self.now.thread self.now.before (instruction instr.now) replies.now (step_with came after.new)) }
         ensures strings { IfNone result (HasStrings (instruction instr.now)) }
     {
-        match long_operation_of(instr.opcode) {
+        let mut cursor = Cursor {
+            state: self.before,
+            pages,
+            replies,
+        };
+        let operation = operation_of(instr.opcode);
+        match long_among(operation) {
             None => {
-                let (before, thread) = (&self.before, self.thread);
-                Some(Came::handled(&played_instr(before, instr, pages, thread, replies), after))
+                let run = played_instr(&mut cursor, operation, instr, self.thread);
+                Some(Came::gone_through(run, &self.before, &cursor.state, after))
             }
             Some(operation) => match plain_of(operation) {
                 Some(plain) => {
-                    let before = &self.before;
-                    Some(Came::handled(&played_long(before, plain, instr, pages, replies), after))
+                    let run = played_long(&mut cursor, plain, instr);
+                    Some(Came::gone_through(run, &self.before, &cursor.state, after))
                 }
                 None => None,
             },
@@ -137,8 +156,13 @@ impl Played {
         match &decoded {
             Decoded::Instr(instr) => self.go_through(instr, pages, replies, after),
             Decoded::Reserved | Decoded::BadMode | Decoded::Past(_) => {
-                let step = played_short(&self.before, &decoded, pages, self.thread, replies);
-                Some(Came::handled(&step, after))
+                let mut cursor = Cursor {
+                    state: self.before,
+                    pages,
+                    replies,
+                };
+                let run = played_short(&mut cursor, &decoded, self.thread);
+                Some(Came::gone_through(run, &self.before, &cursor.state, after))
             }
         }
     }
