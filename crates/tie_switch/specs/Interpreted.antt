@@ -4,6 +4,7 @@ use Rattle.vax_form.specs.Grammar.{Found, instruction, reserved_instruction, res
 use Rattle.vax_form.specs.GrammarFound.{found}
 use Rattle.vax_form.specs.Moments.{handled_ending, handled_failure}
 use Rattle.vax_form.specs.Tree.{Answer, Wants, Fails, Comes, Finish, Exit, Trap, answer, instruction_tree, outcome}
+use Rattle.vax_form.specs.declared.instr.Instr.{Instr}
 use Rattle.vax_form.specs.declared.operation.LongOperation.{LongOperation}
 use Rattle.vax_form.specs.declared.pages.Pages.{Pages}
 use Rattle.vax_form.specs.declared.state.Exception.{Exception}
@@ -124,3 +125,10 @@ IsWant (ties.Want reference) = Unit {0}
 IsWant (ties.Retired state) = ⊥
 IsWant (ties.Exited state) = ⊥
 IsWant (ties.Raised exception state) = ⊥
+
+-- a processor stands before that instruction with nothing pending, and no reply was made to it
+pub record IsBefore (pages : Pages) (boundary : VaxState) (instr : Instr) (state : VaxState) (replies : List ℕ) : Type 0 where
+  pub there : found pages boundary.pc ≡ instruction instr
+  pub nothing : boundary.pending ≡ Nothing
+  pub same : state ≡ boundary
+  pub none : replies ≡ []

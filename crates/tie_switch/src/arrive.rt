@@ -192,6 +192,7 @@ impl Processor {
     }
 
     /// Its instruction ended, with that state behind it: it goes on, or it ends. A fault retires nothing and leaves the boundary.
+    #[inline(always)]
     pub(crate) fn leave_by(&mut self, setting: Setting<'_>, ending: Ending, after: &VaxState)
         requires { self.old.retired < self.old.steps }
         ensures stands { (mode : model.Mode) → StandsFor setting.entry.pages.now self.new (left (setting_of setting.entry) (in_mode self.old mode) (seen.last_of (last_with ending after.now))) }

@@ -1,8 +1,10 @@
 // An instruction without strings, gone through anew with each reply.
-ghost use Rattle.std.specs.Prelude.{◌≡◌, ◌<◌, ◌++◌, ◌∷◌, ℕ, List, [], length, IfSome, IfNone};
+ghost use Rattle.std.specs.Prelude.{◌≡◌, ◌<◌, ◌++◌, ◌∷◌, ℕ, List, [], length, true, IfSome, IfNone};
 ghost use Rattle.tie_operands.specs.Replies.{list_of};
 ghost use Rattle.tie_switch.specs.Interpreted.{HasStrings, IfWants, IsPlayed, StepsBy, kept_of, step_of, step_with};
 ghost use Rattle.tie_switch.specs.Known.{AreFound};
+ghost use Rattle.tie_switch.specs.declared.interpreted.Step.TheVariants.{Leaves};
+ghost use Rattle.tie_switch.specs.declared.place.Last.TheVariants.{Finish};
 ghost use Rattle.vax_form.specs.Grammar.{instruction};
 ghost use Rattle.vax_form.specs.GrammarFound.{found};
 ghost use Rattle.vax_form.specs.Tree.{answer};
@@ -15,8 +17,11 @@ use crate::known::{decoded_at, place_of};
 use tie_interpreter::{played_instr, played_short};
 use tie_strings::{plain_of, played_long};
 use vax_decode::Decoded;
-use vax_form::{Instr, LongOperation, Operation, Pages, VaxState, operation_of};
+use vax_form::{End, Instr, LongOperation, Operand, Operation, Pages, VaxState, operation_of};
 use vax_meaning::Cursor;
+
+/// So many operands are looked at before an instruction is gone through at once: few have more.
+const LOOKED_AT: usize = 3;
 
 /// An instruction without strings makes so many references at most.
 const REPLIES_OF_INSTRUCTION: usize = 60;
@@ -30,6 +35,47 @@ fn long_among(operation: Option<Operation>) -> Option<LongOperation>
     match operation {
         Some(Operation::Long(long)) => Some(long),
         _ => None,
+    }
+}
+
+// Whether an operation makes references besides those of its operands.
+fn asks(operation: Option<Operation>) -> bool {
+    matches!(
+        operation,
+        Some(
+            Operation::PushLong
+                | Operation::PushAddress(_)
+                | Operation::BranchToSubroutine(_)
+                | Operation::JumpToSubroutine
+                | Operation::ReturnFromSubroutine
+                | Operation::ChangeMode
+        )
+    )
+}
+
+// Whether one of the operands that are looked at is in memory.
+fn has_places(instr: &Instr) -> bool {
+    instr.operands[..LOOKED_AT]
+        .iter()
+        .any(|operand| matches!(operand, Operand::Place { .. }))
+}
+
+/// Goes through an instruction that is not long and is thought to make no reference, and tells whether it ended there, so that
+/// the thread goes on with the state behind it.
+#[inline(always)]
+pub(crate) fn ends_at_once(cursor: &mut Cursor, instr: &Instr, thread: u8) -> bool
+    ensures { result ≡ true → StepsBy cursor.old.pages.now thread cursor.old.state (instruction instr.now) cursor.old.replies.now (Leaves (Finish cursor.new.state)) }
+{
+    let operation = operation_of(instr.opcode);
+    if asks(operation) {
+        return false;
+    }
+    match long_among(operation) {
+        None => match played_instr(cursor, operation, instr, thread) {
+            Ok(End::Done) => true,
+            _ => false,
+        },
+        Some(_) => false,
     }
 }
 
@@ -188,6 +234,26 @@ impl Played {
             }
         }
         self.go_through_new(pages, known, replies, after)
+    }
+
+    /// The instruction, where it is known, has no reply, and no operand in memory.
+    #[inline(always)]
+    pub(crate) fn at_once<'a>(
+        &self,
+        _pages: &Pages,
+        known: &'a [Option<Instr>],
+    ) -> Option<&'a Instr>
+        requires known { AreFound _pages.now known.now }
+        ensures found { IfSome result (λ instr. found _pages.now self.now.before.pc ≡ instruction instr.now) }
+        ensures kept { IfSome result (λ instr. kept_of self.now ≡ []) }
+    {
+        let pc = self.before.pc;
+        if let Some(Some(instr)) = known.get(place_of(pc)) {
+            if self.count == 0 && instr.at == pc && !has_places(instr) {
+                return Some(instr);
+            }
+        }
+        None
     }
 
     /// Goes on to the next reference or to the end, where the state behind it is put; None where the instruction has strings.

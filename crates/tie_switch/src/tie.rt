@@ -1,8 +1,8 @@
 // Interpreted steps.
-ghost use Rattle.std.specs.Prelude.{◌≡◌, ◌<◌, ◌+◌, ◌++◌, ◌∷◌, ◌↔◌, ◌⊎◌, ◌&&◌, [], ℕ, List, false, true};
+ghost use Rattle.std.specs.Prelude.{◌≡◌, ◌<◌, ◌+◌, ◌++◌, ◌∷◌, ◌↔◌, ◌⊎◌, ◌&&◌, [], ℕ, List, IfSome, false, true};
 ghost use Rattle.system_model.specs.Processors.{Interprets, tied, turn_in};
 ghost use Rattle.system_model.specs.Processors as model;
-ghost use Rattle.tie_switch.specs.Interpreted.{IfWants, step_of, step_with};
+ghost use Rattle.tie_switch.specs.Interpreted.{IfWants, IsBefore, step_of, step_with};
 ghost use Rattle.tie_switch.specs.Known.{AreFound};
 ghost use Rattle.tie_switch.specs.Live.{asks_get};
 ghost use Rattle.tie_switch.specs.Processors.{CanInterpret, HasMade, IsGiven, IsInterpreting, IsMode};
@@ -13,13 +13,16 @@ ghost use Rattle.vax_form.specs.declared.pages.Pages.{Pages};
 ghost use Rattle.vax_form.specs.declared.state.VaxState.{VaxState};
 ghost use Rattle.vax_long.specs.Pending.{moment_at};
 
-use crate::interpreted::{Came, NO_STATE};
+use crate::interpreted::{Came, Interpreted, NO_STATE};
+use crate::place::Ending;
+use crate::played::ends_at_once;
 use crate::processor::{Mode, Processor};
 use crate::reference::reply_found;
 use crate::request::awaits;
 use crate::setting::Setting;
 use memory_core::{Memory, Reply};
 use vax_form::{Instr, Pages, VaxState};
+use vax_meaning::Cursor;
 
 impl Processor {
     ghost use Rattle.tie_switch.specs.Processors.{in_mode, processor_of, StandsFor};
@@ -85,6 +88,19 @@ impl Processor {
         }
     }
 
+    // The instruction before which it stands, where that is known and has no operand in memory.
+    #[inline(always)]
+    fn at_once<'a>(&self, pages: &Pages, known: &'a [Option<Instr>]) -> Option<&'a Instr>
+        requires known { AreFound pages.now known.now }
+        ensures before { IfSome result (λ instr. (state : VaxState) (replies : List ℕ) → IsMode pages.now self.now.thread self.now.boundary self.now.mode (Interprets state replies)
+            → IsBefore pages.now self.now.boundary instr.now state replies) }
+    {
+        match &self.mode {
+            Mode::Interprets(Interpreted::Plays(played), None) => played.at_once(pages, known),
+            _ => None,
+        }
+    }
+
     /// Makes one interpreted step, with at most one access, or tells that it waits, where a GET does.
     pub(crate) fn tie_step<M: Memory>(
         &mut self,
@@ -114,6 +130,18 @@ impl Processor {
             → HasMade (setting_of setting.entry) (M.set_up memory.old) (M.between memory.old) (turn_in (setting_of setting.entry) (in_mode self.old before) (Interprets state replies))
             (in_mode self.old before) self.new (M.seen memory.old) (M.seen memory.new) }
     {
+        if let Some(instr) = self.at_once(setting.pages, known) {
+            let mut cursor = Cursor {
+                state: self.boundary,
+                pages: setting.pages,
+                replies: &[],
+            };
+            if ends_at_once(&mut cursor, instr, self.thread) {
+                self.count_tie();
+                self.leave_by(setting, Ending::Finish, &cursor.state);
+                return false;
+            }
+        }
         let mut after = NO_STATE;
         match self.interpret(setting.pages, known, &mut after) {
             Came::Wants(reference) => {

@@ -1,19 +1,23 @@
 -- An interpreted step is a turn of the model.
-use Rattle.std.proofs.Common.{◌≡◌, ℕ, ◌&&◌, [], ◌∷◌, ◌++◌, inl, inr, refl, sym, ap, ◌∙◌, subst}
+use Rattle.std.proofs.Common.{◌≡◌, ℕ, Bool, true, false, ◌&&◌, [], ◌∷◌, ◌++◌, inl, inr, refl, sym, ap, ◌∙◌, subst}
 use Rattle.memory_core.specs.Kinds.{is_get}
 use Rattle.memory_core.specs.Seen.{IsNext, IsOver}
 use Rattle.memory_core.specs.declared.entry.Request.{Request}
 use Rattle.system_model.specs.Legal.{spent}
 use Rattle.system_model.specs.Processors.{Interprets, Mode, Processor, Turn, left, request_of, tie_turn, tied}
 use Rattle.system_model.specs.Quadwords.{reply_found}
+use Rattle.vax_form.specs.Grammar.{instruction}
 use Rattle.vax_form.specs.Tree.{Answer}
 use Rattle.vax_form.specs.declared.state.VaxState.{VaxState}
-use Rattle.tie_switch.specs.Interpreted.{IfWants, last_with, step_with}
+use Rattle.tie_switch.specs.Interpreted.{IfWants, StepsBy, last_with, step_with}
 use Rattle.tie_switch.specs.Live.{asks_get}
-use Rattle.tie_switch.specs.Processors.{HasMade, IsMode, StandsFor, in_mode}
+use Rattle.tie_switch.specs.Processors.{HasMade, IsMode, ProcessorValue, StandsFor, in_mode}
 use Rattle.tie_switch.specs.Seen.{last_of, setting_of}
 use Rattle.tie_switch.specs.declared.interpreted.Came.{Came}
 use Rattle.tie_switch.specs.declared.interpreted.Step.{Step}
+use Rattle.tie_switch.specs.declared.interpreted.Step.TheVariants as steps
+use Rattle.tie_switch.specs.declared.place.Last.TheVariants as lasts
+use Rattle.tie_switch.proofs.Playing.{at_once_answers}
 use Rattle.tie_switch.proofs.Standing.{wants_is, leaves_is}
 use Rattle.tie_switch.proofs.Waiting.{interpreting, stands_in}
 use Rattle.tie_switch.proofs.processor.Processor.tie_step.Goals as goal
@@ -85,13 +89,47 @@ returns-in-Leaves-clause-turned g c goes before state replies h =
     let seen = g.M.Memory.seen c.args.memory.now in
     let last = last_with c.in-Leaves.ending c.interpret.new.after in
     let leaves = leaves_is setting p state replies _ last (sym (c.interpret.ensures.answers state replies h) ∙ ap (λ (x : Came). step_with x c.interpret.new.after) c.in-Leaves.is) in
-    let counted : in_mode c.count_tie.new.self before ≡ tied p = c.count_tie.ensures.tied before ∙ ap tied (c.interpret.ensures.same before) in
+    let counted : in_mode c.count_tie-in-Leaves.new.self before ≡ tied p = c.count_tie-in-Leaves.ensures.tied before ∙ ap tied (c.interpret.ensures.same before) in
+    subst (λ (t : Turn). HasMade setting set_up between t p c.leave_by-in-Leaves.new.self seen seen) (sym leaves)
+    (record {
+      processor = left setting (tied p) (last_of last);
+      stands = subst (λ (x : Processor). StandsFor pages c.leave_by-in-Leaves.new.self (left setting x (last_of last))) counted (c.leave_by-in-Leaves.ensures.stands before);
+      makes = record { processor = refl; seen = refl };
+    })
+
+pub returns-then-ends_at_once-clause-turned : goal.returns-then-ends_at_once-clause-turned
+returns-then-ends_at_once-clause-turned g c goes before state replies h =
+    let setting = setting_of c.args.setting in
+    let pages = c.args.setting.pages.now in
+    let old = c.args.self.now in
+    let p = in_mode old before in
+    let set_up = g.M.Memory.set_up c.args.memory.now in
+    let between = g.M.Memory.between c.args.memory.now in
+    let seen = g.M.Memory.seen c.args.memory.now in
+    let last = lasts.Finish c.ends_at_once.new.cursor.state in
+    let comes = subst (λ (k : ProcessorValue). StepsBy pages k.thread k.boundary (instruction c.in-Some.instr.now) [] (steps.Leaves last)) c.self.view_is (c.ends_at_once.ensures c.if-ends_at_once.true) in
+    let answers = at_once_answers pages old.thread old.boundary c.in-Some.instr.now (steps.Leaves last) comes state replies (c.in-Some.ensures.before state replies h) in
+    let leaves = leaves_is setting p state replies _ last (sym answers) in
     subst (λ (t : Turn). HasMade setting set_up between t p c.leave_by.new.self seen seen) (sym leaves)
     (record {
       processor = left setting (tied p) (last_of last);
-      stands = subst (λ (x : Processor). StandsFor pages c.leave_by.new.self (left setting x (last_of last))) counted (c.leave_by.ensures.stands before);
+      stands = subst (λ (x : Processor). StandsFor pages c.leave_by.new.self (left setting x (last_of last))) (c.count_tie.ensures.tied before) (c.leave_by.ensures.stands before);
       makes = record { processor = refl; seen = refl };
     })
+
+no_get : (waits : Bool) → false ≡ (waits && false)
+no_get true = refl
+no_get false = refl
+
+pub returns-then-ends_at_once-clause-waits : goal.returns-then-ends_at_once-clause-waits
+returns-then-ends_at_once-clause-waits g c before state replies h =
+    let setting = setting_of c.args.setting in
+    let old = c.args.self.now in
+    let waits = c.args.waits in
+    let last = lasts.Finish c.ends_at_once.new.cursor.state in
+    let comes = subst (λ (k : ProcessorValue). StepsBy c.args.setting.pages.now k.thread k.boundary (instruction c.in-Some.instr.now) [] (steps.Leaves last)) c.self.view_is (c.ends_at_once.ensures c.if-ends_at_once.true) in
+    let answers = at_once_answers c.args.setting.pages.now old.thread old.boundary c.in-Some.instr.now (steps.Leaves last) comes state replies (c.in-Some.ensures.before state replies h) in
+    no_get waits ∙ sym (ap (λ (t : Turn). waits && asks_get t) (leaves_is setting (in_mode old before) state replies _ last (sym answers)))
 
 pub returns-then-awaits-clause-still : goal.returns-then-awaits-clause-still
 returns-then-awaits-clause-still g c waited p stands =
