@@ -17,13 +17,13 @@ fn found_first(
     cursor: &mut Cursor,
     access: Access,
     size: Size,
-    operand: Operand,
+    operand: &Operand,
 ) -> Result<Evaluated, Stop>
-    ensures plays { Plays (evaluate access size operand) cursor.old result cursor.new }
+    ensures plays { Plays (evaluate access size operand.now) cursor.old result cursor.new }
     ensures few { Uses 4 cursor.old result cursor.new }
 {
-    let location = find(cursor, access, size, operand)?;
-    obtain(cursor, access, size, operand, location)
+    let location = find(cursor, access, size, *operand)?;
+    obtain(cursor, access, size, *operand, location)
 }
 
 /// What a register operand has, in the bytes of its size.
@@ -48,12 +48,12 @@ fn evaluated(
     cursor: &mut Cursor,
     access: Access,
     size: Size,
-    operand: Operand,
+    operand: &Operand,
 ) -> Result<Evaluated, Stop>
-    ensures plays { Plays (evaluate access size operand) cursor.old result cursor.new }
+    ensures plays { Plays (evaluate access size operand.now) cursor.old result cursor.new }
     ensures few { Uses 4 cursor.old result cursor.new }
 {
-    match (access, operand) {
+    match (access, *operand) {
         (Access::Read, Operand::Unused) => Ok(NOTHING),
         (Access::Read, Operand::Value(value)) => Ok(Evaluated {
             location: Location::InMemory(0),
@@ -90,10 +90,10 @@ fn passed_over(
     cursor: &mut Cursor,
     access: Access,
     size: Size,
-    operand: Operand,
+    operand: &Operand,
 ) -> Result<Evaluated, Stop>
-    requires unused { (access ≡ Read) × (operand ≡ Unused) }
-    ensures plays { Plays (evaluate access size operand) cursor.old result cursor.new }
+    requires unused { (access ≡ Read) × (operand.now ≡ Unused) }
+    ensures plays { Plays (evaluate access size operand.now) cursor.old result cursor.new }
     ensures few { Uses 4 cursor.old result cursor.new }
 {
     Ok(NOTHING)
@@ -106,22 +106,22 @@ pub fn all_operands(cursor: &mut Cursor, row: &Row, instr: &Instr) -> Result<[Ev
     ensures plays { Plays (operands_from 6 row.now instr.now nothings) cursor.old result cursor.new }
     ensures few { Uses 24 cursor.old result cursor.new }
 {
-    let v0 = evaluated(cursor, row.access[0], row.size[0], instr.operands[0])?;
-    let v1 = evaluated(cursor, row.access[1], row.size[1], instr.operands[1])?;
+    let v0 = evaluated(cursor, row.access[0], row.size[0], &instr.operands[0])?;
+    let v1 = evaluated(cursor, row.access[1], row.size[1], &instr.operands[1])?;
     if is_unused(row.access[2], &instr.operands[2])
         && is_unused(row.access[3], &instr.operands[3])
         && is_unused(row.access[4], &instr.operands[4])
         && is_unused(row.access[5], &instr.operands[5])
     {
-        let v2 = passed_over(cursor, row.access[2], row.size[2], instr.operands[2])?;
-        let v3 = passed_over(cursor, row.access[3], row.size[3], instr.operands[3])?;
-        let v4 = passed_over(cursor, row.access[4], row.size[4], instr.operands[4])?;
-        let v5 = passed_over(cursor, row.access[5], row.size[5], instr.operands[5])?;
+        let v2 = passed_over(cursor, row.access[2], row.size[2], &instr.operands[2])?;
+        let v3 = passed_over(cursor, row.access[3], row.size[3], &instr.operands[3])?;
+        let v4 = passed_over(cursor, row.access[4], row.size[4], &instr.operands[4])?;
+        let v5 = passed_over(cursor, row.access[5], row.size[5], &instr.operands[5])?;
         return Ok([v0, v1, v2, v3, v4, v5]);
     }
-    let v2 = evaluated(cursor, row.access[2], row.size[2], instr.operands[2])?;
-    let v3 = evaluated(cursor, row.access[3], row.size[3], instr.operands[3])?;
-    let v4 = evaluated(cursor, row.access[4], row.size[4], instr.operands[4])?;
-    let v5 = evaluated(cursor, row.access[5], row.size[5], instr.operands[5])?;
+    let v2 = evaluated(cursor, row.access[2], row.size[2], &instr.operands[2])?;
+    let v3 = evaluated(cursor, row.access[3], row.size[3], &instr.operands[3])?;
+    let v4 = evaluated(cursor, row.access[4], row.size[4], &instr.operands[4])?;
+    let v5 = evaluated(cursor, row.access[5], row.size[5], &instr.operands[5])?;
     Ok([v0, v1, v2, v3, v4, v5])
 }
