@@ -7,7 +7,7 @@ use Rattle.vax_form.specs.Grammar.{Found, instruction, reserved_instruction, res
 use Rattle.vax_form.specs.GrammarFound.{found}
 use Rattle.vax_form.specs.Operation.{operation_at}
 use Rattle.vax_form.specs.Row.{is_long_operation}
-use Rattle.vax_form.specs.Tree.{Answer, Wants, Fails, Comes, Finish, Exit, Trap, answer, instruction_tree, outcome}
+use Rattle.vax_form.specs.Tree.{Answer, answer, instruction_tree, outcome}
 use Rattle.vax_form.specs.declared.instr.Instr.{Instr}
 use Rattle.vax_form.specs.declared.operation.LongOperation.{LongOperation}
 use Rattle.vax_form.specs.declared.operation.LongOperation.TheVariants as long
@@ -22,7 +22,6 @@ use Rattle.tie_operands.specs.Replies.{list_of}
 use Rattle.tie_operands.specs.Steps as made
 use Rattle.tie_operands.specs.Steps.{FailsByFault, IfWant}
 use Rattle.tie_operands.specs.declared.step.TieStep.{TieStep}
-use Rattle.tie_operands.specs.declared.step.TieStep.TheVariants as ties
 use Rattle.tie_operands.proofs.Whole.{if_want}
 use Rattle.tie_interpreter.specs.Found.{IsShort, short_tree}
 use Rattle.tie_strings.specs.Bodies.{long_of, plain_of}
@@ -32,8 +31,6 @@ use Rattle.tie_strings.specs.declared.body.Plain.TheVariants as plains
 use Rattle.tie_switch.specs.Interpreted.{ComesTo, HasStrings, HasStringsBy, IfWants, IsBefore, IsPlayed, IsWant, Stands, StepsBy, handled_answer, kept_of, step_of}
 use Rattle.tie_switch.specs.declared.interpreted.Interpreted.{Interpreted}
 use Rattle.tie_switch.specs.declared.interpreted.Step.{Step}
-use Rattle.tie_switch.specs.declared.interpreted.Step.TheVariants as steps
-use Rattle.tie_switch.specs.declared.place.Last.TheVariants as lasts
 use Rattle.tie_switch.specs.declared.played.Played.{Played}
 use Rattle.tie_switch.proofs.Found.{short_is}
 use Rattle.tie_switch.proofs.Handled.{if_wants, moment_step, wants_map}
@@ -141,14 +138,6 @@ handled_comes pages thread before there replies step result comes handled wants 
   few = if_wants result step wants (λ (few : length replies < 60). few) comes.few;
   whole = comes.whole;
 }
-
--- an instruction that ended without an exception comes to that
-pub ended_at_once : (before after : VaxState) (a : Answer) → ties.Retired after ≡ made.step_of (outcome before a) → steps.Leaves (lasts.Finish after) ≡ step_of (handled_answer before a)
-ended_at_once before after (Wants reference) e = absurd (cc e)
-ended_at_once before after (Fails exception) e = absurd (cc e)
-ended_at_once before after (Comes (Finish state) left) e = let same : after ≡ state = cc e in ap (λ s. steps.Leaves (lasts.Finish s)) same
-ended_at_once before after (Comes (Exit state) left) e = absurd (cc e)
-ended_at_once before after (Comes (Trap kind state) left) e = absurd (cc e)
 
 -- a step of an instruction with nothing pending and no reply is that of the thread
 pub at_once_answers : (pages : Pages) (thread : ℕ) (boundary : VaxState) (instr : Instr) (step : Step) → StepsBy pages thread boundary (instruction instr) [] step
