@@ -14,7 +14,7 @@ use vax_form::{Flags, Size};
 /// Words, the map's pairs, and the points.
 type Code = (Vec<u32>, Vec<(u32, u32)>, Vec<(u32, Point)>);
 
-static WORDS: [u32; 36] = [
+static WORDS: [u32; 35] = [
     // to the next block: ZAPNOT R1,#1,R21
     0x4820_3635,
     // an exit alone, to the first block: BR two words back
@@ -51,9 +51,8 @@ static WORDS: [u32; 36] = [
     0x275F_0002,
     0x235A_8000,
     0x0000_0086,
-    // to the next block, behind a service: ZAPNOT; BIS R21,#0,R21; LDAH R26,0(R31); LDA R26,600(R26); CALL_PAL 82; BR
+    // to the next block, behind a service: ZAPNOT; LDAH R26,0(R31); LDA R26,600(R26); CALL_PAL 82; BR
     0x4820_3635,
-    0x46A0_1415,
     0x275F_0000,
     0x235A_0258,
     0x0000_0082,
@@ -73,7 +72,7 @@ static PAIRS: [(u32, u32); 10] = [
     (0x230, 15),
     (0x240, 20),
     (0x250, 28),
-    (0x258, 34),
+    (0x258, 33),
 ];
 
 // each block's first word, and the word of the service
@@ -87,8 +86,8 @@ static POINTS: [(u32, u32); 11] = [
     (0x230, 15),
     (0x240, 20),
     (0x250, 28),
-    (0x250, 32),
-    (0x258, 34),
+    (0x250, 31),
+    (0x258, 33),
 ];
 
 /// The opcode of an instruction that keeps the codes.

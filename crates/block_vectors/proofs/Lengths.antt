@@ -187,7 +187,7 @@ row37 : longest (sources_of op.MovePsl) ((Compute 2 compute.Move sizes.Long (Reg
 unfolding longest
 row37 = refl
 
-row38 : longest (sources_of op.ChangeMode) ((Compute 0 compute.Move sizes.Long (Register 0) (Const 0)) ∷ (Probe 0 4 false) ∷ (Read 1 0 4) ∷ (Compute 4 compute.Add sizes.Long (Register 2) (Register 2)) ∷ (Compute 1 compute.Add sizes.Long (Temp 1) (Temp 4)) ∷ (Probe 1 2 false) ∷ (Read 0 1 2) ∷ (Compute 5 compute.Add sizes.Long (Register 0) (Const 4)) ∷ (Commit 0 5) ∷ (Leave (Service 0)) ∷ []) ≡ 0x28
+row38 : longest (sources_of op.ChangeMode) ((Compute 0 compute.Move sizes.Long (Register 0) (Const 0)) ∷ (Probe 0 4 false) ∷ (Read 1 0 4) ∷ (Compute 4 compute.Add sizes.Long (Register 2) (Register 2)) ∷ (Compute 1 compute.Add sizes.Long (Temp 1) (Temp 4)) ∷ (Probe 1 2 false) ∷ (Read 0 1 2) ∷ (Compute 5 compute.Add sizes.Long (Register 0) (Const 4)) ∷ (Commit 0 5) ∷ (Leave (Service 0)) ∷ []) ≡ 0x27
 unfolding longest
 row38 = refl
 

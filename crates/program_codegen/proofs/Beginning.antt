@@ -1,7 +1,7 @@
 -- The rules at the first word of a block are those before its instruction.
 use Rattle.std.proofs.Common.{◌≡◌, refl, sym, ap, ◌∙◌, List, [], ◌∷◌, ◌++◌, map, Bool, true, false}
 use Rattle.std.proofs.lemmas.Option.{same_Some}
-use Rattle.std.specs.Prelude.{unwrap_or, if◌then◌else◌}
+use Rattle.std.specs.Prelude.{◌==◌, unwrap_or, if◌then◌else◌}
 use Rattle.alpha_encode.specs.declared.instr.AlphaInstr.{AlphaInstr}
 use Rattle.exception_records.specs.declared.points.Point.{Point}
 use Rattle.exception_records.specs.declared.rules.CodeRule.{CodeRule}
@@ -15,7 +15,7 @@ use Rattle.byte_sequences.specs.Words.{locked_code}
 use Rattle.compute_sequences.specs.Words.{compute_code}
 use Rattle.program_codegen.specs.declared.lines.Line.{Line}
 use Rattle.program_codegen.specs.declared.points.Site.{Site}
-use Rattle.program_codegen.specs.Words.{block_of, departing, holder, lines_of, may_trap, overflow_lines, overflow_made, plain, point_of, program_lines, tested_lines, trap_lines, with_first, read_by, write_by}
+use Rattle.program_codegen.specs.Words.{block_of, code_copied, departing, serving, holder, lines_of, may_trap, overflow_lines, overflow_made, plain, point_of, program_lines, tested_lines, trap_lines, with_first, read_by, write_by}
 use Rattle.program_codegen.specs.Promises.{BeginsBy}
 
 module _ (site : Site) where
@@ -48,7 +48,11 @@ module _ (site : Site) where
   depart (Fixed address) = refl
   depart (Computed temp) = refl
   depart (Choice when taken other) = refl
-  depart (Service temp) = refl
+  depart (Service temp) = by (temp == 0)
+    where
+      by : (b : Bool) → Starts (code_copied b temp ++ serving site)
+      by true = refl
+      by false = refl
   depart Breakpoint = refl
 
   operation_starts : (codes : List AlphaInstr) (operation : Micro) (program : List Micro) → Starts (lines_of site codes operation program)

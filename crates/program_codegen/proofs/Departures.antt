@@ -18,7 +18,7 @@ use Rattle.block_law.specs.Placements.{Placement}
 use Rattle.block_law.proofs.Rules.{Always, roomy}
 use Rattle.program_codegen.specs.declared.lines.Line.{Line}
 use Rattle.program_codegen.specs.declared.points.Site.{Site}
-use Rattle.program_codegen.specs.Words.{plain, trap_lines, departing, leaving, may_overflow}
+use Rattle.program_codegen.specs.Words.{plain, code_copied, serving, trap_lines, departing, leaving, may_overflow}
 use Rattle.program_codegen.specs.Programs.{IsExit}
 use Rattle.program_codegen.proofs.Numbers.{all_three}
 use Rattle.program_codegen.proofs.Walk.{Within, row_length}
@@ -53,7 +53,11 @@ module _ (p : Placement) (site : Site) (codes : List AlphaInstr) (setting : Sett
   departs_some (exits.Fixed address) = lit≤ tt
   departs_some (exits.Computed temp) = lit≤ tt
   departs_some (exits.Choice when taken other) = lit≤ tt
-  departs_some (exits.Service temp) = lit≤ tt
+  departs_some (exits.Service temp) = by (temp == 0)
+    where
+      by : (b : Bool) → 1 ≤ length (code_copied b temp ++ serving site)
+      by true = lit≤ tt
+      by false = lit≤ tt
   departs_some exits.Breakpoint = lit≤ tt
 
   -- the codes, the trap, and then the exit

@@ -31,7 +31,7 @@ use Rattle.micro_ops.specs.Exits.{exit_addresses}
 use Rattle.program_codegen.specs.declared.lines.Line.{Line}
 use Rattle.program_codegen.specs.declared.points.Site.{Site}
 use Rattle.alpha_encode.specs.Halves.{load_longword}
-use Rattle.program_codegen.specs.Words.{plain, marked, holder, copy, point_of, raising, trapping, exit_lines, overflow_made, overflow_register, load_pc, overflow_lines, enabled_lines, ready_lines, made_lines, tested_lines, may_overflow, may_trap, trap_lines, departing, leaving, words_of}
+use Rattle.program_codegen.specs.Words.{plain, marked, holder, copy, code_copied, serving, point_of, raising, trapping, exit_lines, overflow_made, overflow_register, load_pc, overflow_lines, enabled_lines, ready_lines, made_lines, tested_lines, may_overflow, may_trap, trap_lines, departing, leaving, words_of}
 use Rattle.program_codegen.specs.Programs.{IsExit, KeepsTogether}
 use Rattle.program_codegen.proofs.Numbers.{all_four}
 use Rattle.program_codegen.proofs.Walk.{plain_length}
@@ -172,11 +172,16 @@ module _ (site : Site) (after_fits : site.after < 2 ^ 32) where
     plain_fits site (Branch Beq (holder when) (pos 3)) (branch_encodable Beq (21 + when) 3 (let lt = is.0 in omega arith) (lit< tt)) refl,
     each_append site 0 (exit_lines taken) (exit_lines other) (exit_each site taken is.1) (exit_each site other is.2),
   )
-  departing_each (exits.Service temp) is = (
-    plain_fits site (copy (holder temp) 21) (omega arith, lit< tt, lit< tt) refl,
-    each_append site 0 (map plain (load_longword 26 site.after)) (marked (Pal 0x82) (point_of site) ∷ exit_lines site.after) (row_fits site (load_longword 26 site.after) (load_encodable 26 site.after (lit< tt)) refl)
-        (call_fits site 0x82 (point_of site) (lit≤ tt) (lit≤ tt) refl refl refl refl, exit_each site site.after after_fits),
-  )
+  departing_each (exits.Service temp) is = by (temp == 0)
+    where
+      served : EachFits site 0 (serving site)
+      served =
+          each_append site 0 (map plain (load_longword 26 site.after)) (marked (Pal 0x82) (point_of site) ∷ exit_lines site.after) (row_fits site (load_longword 26 site.after) (load_encodable 26 site.after (lit< tt)) refl)
+          (call_fits site 0x82 (point_of site) (lit≤ tt) (lit≤ tt) refl refl refl refl, exit_each site site.after after_fits)
+
+      by : (b : Bool) → EachFits site 0 (code_copied b temp ++ serving site)
+      by true = served
+      by false = (plain_fits site (copy (holder temp) 21) (omega arith, lit< tt, lit< tt) refl, served)
   departing_each exits.Breakpoint is = (call_fits site 0x83 (raising site 0x2C) (lit≤ tt) (lit≤ tt) refl refl refl refl, refl)
 
   pub departing_goes : (exit : Exit) → targets (departing site exit) ≡ exit_addresses site.after exit
@@ -184,7 +189,11 @@ module _ (site : Site) (after_fits : site.after < 2 ^ 32) where
   departing_goes (exits.Fixed address) = refl
   departing_goes (exits.Computed temp) = refl
   departing_goes (exits.Choice when taken other) = refl
-  departing_goes (exits.Service temp) = refl
+  departing_goes (exits.Service temp) = by (temp == 0)
+    where
+      by : (b : Bool) → targets (code_copied b temp ++ serving site) ≡ site.after ∷ []
+      by true = refl
+      by false = refl
   departing_goes exits.Breakpoint = refl
 
   pub departing_spares : (exit : Exit) → SparesCodes (words_of (departing site exit))
@@ -192,7 +201,11 @@ module _ (site : Site) (after_fits : site.after < 2 ^ 32) where
   departing_spares (exits.Fixed address) r low high = exit_spares address r low high
   departing_spares (exits.Computed temp) r low high = rw (above_codes 26 r (lit≤ tt) high, above_codes 31 r (lit≤ tt) high) refl
   departing_spares (exits.Choice when taken other) r low high = rw (above_codes 31 r (lit≤ tt) high) refl
-  departing_spares (exits.Service temp) r low high = rw (above_codes 21 r (lit≤ tt) high, above_codes 26 r (lit≤ tt) high, below_codes 0 r (lit< tt) low, above_codes 31 r (lit≤ tt) high) refl
+  departing_spares (exits.Service temp) r low high = by (temp == 0)
+    where
+      by : (b : Bool) → writes_register r (words_of (code_copied b temp ++ serving site)) ≡ false
+      by true = rw (above_codes 26 r (lit≤ tt) high, below_codes 0 r (lit< tt) low, above_codes 31 r (lit≤ tt) high) refl
+      by false = rw (above_codes 21 r (lit≤ tt) high, above_codes 26 r (lit≤ tt) high, below_codes 0 r (lit< tt) low, above_codes 31 r (lit≤ tt) high) refl
   departing_spares exits.Breakpoint r low high = rw (above_codes 31 r (lit≤ tt) high) refl
 
   pub departing_short : (exit : Exit) → length (departing site exit) ≤ 7
@@ -200,7 +213,11 @@ module _ (site : Site) (after_fits : site.after < 2 ^ 32) where
   departing_short (exits.Fixed address) = lit≤ tt
   departing_short (exits.Computed temp) = lit≤ tt
   departing_short (exits.Choice when taken other) = lit≤ tt
-  departing_short (exits.Service temp) = lit≤ tt
+  departing_short (exits.Service temp) = by (temp == 0)
+    where
+      by : (b : Bool) → length (code_copied b temp ++ serving site) ≤ 7
+      by true = lit≤ tt
+      by false = lit≤ tt
   departing_short exits.Breakpoint = lit≤ tt
 
 -- ---- the words that leave the codes
@@ -299,7 +316,11 @@ module _ (site : Site) (codes : List AlphaInstr) (after_fits : site.after < 2 ^ 
   leaving_kept (exits.Fixed address) known is fits come quiet = quiet_kept known.changed _ (quiet_leaving (exits.Fixed address) is refl)
   leaving_kept (exits.Computed temp) known is fits come quiet = quiet_kept known.changed _ (quiet_leaving (exits.Computed temp) is refl)
   leaving_kept (exits.Choice when taken other) known is fits come quiet = quiet_kept known.changed _ (quiet_leaving (exits.Choice when taken other) is refl)
-  leaving_kept (exits.Service temp) known is fits come quiet = quiet_kept known.changed _ (quiet_leaving (exits.Service temp) is refl)
+  leaving_kept (exits.Service temp) known is fits come quiet = quiet_kept known.changed _ (quiet_leaving (exits.Service temp) is (by (temp == 0)))
+    where
+      by : (b : Bool) → list_any may_fault (words_of (code_copied b temp ++ serving site)) ≡ false
+      by true = refl
+      by false = refl
   leaving_kept exits.Breakpoint known is fits come quiet = by known.changed refl fits
     where
       by : (changed : Bool) → known.changed ≡ changed → not changed ≡ true → KeptBy changed (words_of (leaving site codes exits.Breakpoint))

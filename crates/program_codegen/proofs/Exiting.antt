@@ -1,5 +1,5 @@
 -- The exits of a block, behind its codes.
-use Rattle.std.proofs.Common.{◌≡◌, ℕ, ◌+◌, ◌%◌, ◌^◌, ◌<◌, ◌≤◌, refl, sym, ap, ◌∙◌, subst, arith, List, [], ◌∷◌, ◌++◌, length, map, Some, None, Bool, true, false, lit<, lit≤}
+use Rattle.std.proofs.Common.{◌≡◌, ℕ, ◌+◌, ◌%◌, ◌^◌, ◌<◌, ◌≤◌, refl, sym, ap, ◌∙◌, subst, arith, List, [], ◌∷◌, ◌++◌, length, map, Some, None, Bool, true, false, lit<, lit≤, eqb-true}
 use Rattle.std.specs.Prelude.{pos, ◌==◌, not, bit_or, slice_set, if◌then◌else◌}
 use Rattle.std.specs.Int.{cast_unsigned, w64}
 use Rattle.std.proofs.Math.Nat.{mod-eq_of_lt}
@@ -37,7 +37,7 @@ use Rattle.block_law.proofs.Rounds.{fits_spare}
 use Rattle.block_law.proofs.Rules.{Always, roomy, goes, passes, skips, looks_up, serves, raises}
 use Rattle.program_codegen.specs.declared.lines.Line.{Line}
 use Rattle.program_codegen.specs.declared.points.Site.{Site}
-use Rattle.program_codegen.specs.Words.{plain, marked, holder, copy, point_of, raising, exit_lines, departing}
+use Rattle.program_codegen.specs.Words.{plain, marked, holder, copy, code_copied, serving, point_of, raising, exit_lines, departing}
 use Rattle.program_codegen.specs.Programs.{LeavesReady}
 use Rattle.program_codegen.proofs.Numbers.{all_three, copied}
 use Rattle.program_codegen.proofs.Walk.{Within, next, stands, is_inside, exit_leads, behind_exit}
@@ -145,31 +145,46 @@ module _ (p : Placement) (site : Site) (known : Known) (standing : Standing) (re
       ap (λ (rs : List ℕ). with_core p.begun rs site.after (psw_shown g site.before p.held)) r
       ∙ ap (with_core p.begun (registers_shown (put g 0 (sign_extended value 32))) site.after) (before ∙ sym behind)
 
-  pub serves_then : (pc temp : ℕ) → Within p site.behind pc (departing site (exits.Service temp)) → temp < 6 → exit_holds known temp ≡ true
-      → Always p None 7 (at_place regs pc) (p.serve (standing.temps temp % 2 ^ 16) (with_pc site.after standing.state))
-  serves_then pc temp w lt fits =
+  -- from where its code stands in R21
+  served : (pc temp : ℕ) (g1 : Regs) → Within p site.behind pc (serving site) → ((n : ℕ) → is_kept n ≡ true → g1 n ≡ regs n)
+      → g1 31 ≡ regs 31 → g1 21 ≡ standing.temps temp → Always p None 6 (at_place g1 pc) (p.serve (standing.temps temp % 2 ^ 16) (with_pc site.after standing.state))
+  served pc temp g1 w kept zero is =
       let end = w.high in
-      let value = exit_value p site known standing regs temp lt fits c in
       let t = p.serve (standing.temps temp % 2 ^ 16) (with_pc site.after standing.state) in
       let tail = marked (Pal 0x82) (point_of site) ∷ exit_lines site.after in
-      let g1 = put regs 21 (bit_or (regs (21 + temp)) 0) in
-      let is : bit_or (regs (21 + temp)) 0 ≡ standing.temps temp = copied (regs (21 + temp)) ∙ value in
-      let w1 = next p site.behind pc (copy (holder temp) 21) None (map plain (load_longword 26 site.after) ++ tail) w in
-      goes p None (4 + 1 + 1) (at_place regs pc) (at_place g1 (pc + 1)) (copy (holder temp) 21) t (stands p site.behind pc (copy (holder temp) 21) None (map plain (load_longword 26 site.after) ++ tail) w) refl (omega arith) (is_inside p site.behind pc (pc + 1) _ w (omega arith) (omega arith))
-      (loads p site 4 (pc + 1) site.after tail g1 t w1 (lit≤ tt) (put_other regs 21 (bit_or (regs (21 + temp)) 0) 31 refl ∙ c.form.zero) after_fits
+      loads p site 4 pc site.after tail g1 t w (lit≤ tt) (zero ∙ c.form.zero) after_fits
       (λ g only low w2.
-      let same : (n : ℕ) → is_kept n ≡ true → g n ≡ regs n = λ n kept. only n (kept_apart 26 n (lit≤ tt) (lit≤ tt) kept) ∙ kept_by_put regs 21 (bit_or (regs (21 + temp)) 0) (lit≤ tt) (lit≤ tt) n kept in
-      let form = form_kept regs g same (only 31 refl ∙ put_other regs 21 (bit_or (regs (21 + temp)) 0) 31 refl) c.form in
+      let same : (n : ℕ) → is_kept n ≡ true → g n ≡ regs n = λ n k. only n (kept_apart 26 n (lit≤ tt) (lit≤ tt) k) ∙ kept n k in
+      let form = form_kept regs g same (only 31 refl ∙ zero) c.form in
       let code : g 21 % 2 ^ 16 ≡ standing.temps temp % 2 ^ 16 = ap (λ x. x % 2 ^ 16) (only 21 refl ∙ is) in
       let found : with_pc site.after standing.state ≡ state_shown p g (target g) site.before p.held =
       found_is ∙ (sym (state_kept regs g same p site.after site.before p.held) ∙ ap (λ pc. state_shown p g pc site.before p.held) (sym low)) in
       let there = end in
-      let w3 = next p site.behind (pc + 1 + 1 + 1) (Pal 0x82) (Some (point_of site)) (exit_lines site.after) w2 in
-      serves p None None 3 (at_place g (pc + 1 + 1 + 1)) t (point_of site) (stands p site.behind (pc + 1 + 1 + 1) (Pal 0x82) (Some (point_of site)) (exit_lines site.after) w2) w2.has.0.1
-      (is_inside p site.behind (pc + 1 + 1 + 1) (pc + 1 + 1 + 1 + 1) _ w2 (omega arith) (omega arith)) form
+      let w3 = next p site.behind (pc + 1 + 1) (Pal 0x82) (Some (point_of site)) (exit_lines site.after) w2 in
+      serves p None None 3 (at_place g (pc + 1 + 1)) t (point_of site) (stands p site.behind (pc + 1 + 1) (Pal 0x82) (Some (point_of site)) (exit_lines site.after) w2) w2.has.0.1
+      (is_inside p site.behind (pc + 1 + 1) (pc + 1 + 1 + 1) _ w2 (omega arith) (omega arith)) form
       (subst (λ (u : Tree). Same t u) (ap (λ code. p.serve code (with_pc site.after standing.state)) (sym code) ∙ ap (p.serve (g 21 % 2 ^ 16)) found) (same_refl t)) (λ spare round fits. fits)
       (λ value value_lt n spare round fits.
-      subst (λ (s : VaxState). Follows p n Plain spare round (at_place (put g 0 (sign_extended value 32)) (pc + 1 + 1 + 1 + 1)) (Ends (Finish s)))
+      subst (λ (s : VaxState). Follows p n Plain spare round (at_place (put g 0 (sign_extended value 32)) (pc + 1 + 1 + 1)) (Ends (Finish s)))
       (sym (ap (λ pc. with_register 0 value (state_shown p g pc site.before p.held)) low ∙ behind_service g value value_lt same))
-      (exit_leads p site.behind (pc + 1 + 1 + 1 + 1) site.after [] w3 n spare round (put g 0 (sign_extended value 32)) (fits_spare p.bonus None 3 spare round fits)
-      (form_register g 0 (sign_extended value 32) (lit< tt) (extended_again value) form)))))
+      (exit_leads p site.behind (pc + 1 + 1 + 1) site.after [] w3 n spare round (put g 0 (sign_extended value 32)) (fits_spare p.bonus None 3 spare round fits)
+      (form_register g 0 (sign_extended value 32) (lit< tt) (extended_again value) form))))
+
+  pub serves_then : (pc temp : ℕ) → Within p site.behind pc (departing site (exits.Service temp)) → temp < 6 → exit_holds known temp ≡ true
+      → Always p None (length (departing site (exits.Service temp))) (at_place regs pc) (p.serve (standing.temps temp % 2 ^ 16) (with_pc site.after standing.state))
+  serves_then pc temp w lt fits = by (temp == 0) refl w
+    where
+      t : Tree
+      t = p.serve (standing.temps temp % 2 ^ 16) (with_pc site.after standing.state)
+
+      value : regs (21 + temp) ≡ standing.temps temp
+      value = exit_value p site known standing regs temp lt fits c
+
+      by : (b : Bool) → (temp == 0) ≡ b → Within p site.behind pc (code_copied b temp ++ serving site) → Always p None (length (code_copied b temp ++ serving site)) (at_place regs pc) t
+      by true e w = served pc temp regs w (λ n kept. refl) refl (ap (λ n. regs (21 + n)) (sym (eqb-true temp 0 e)) ∙ value)
+      by false e w =
+          let end = w.high in
+          let g1 = put regs 21 (bit_or (regs (21 + temp)) 0) in
+          goes p None 6 (at_place regs pc) (at_place g1 (pc + 1)) (copy (holder temp) 21) t (stands p site.behind pc (copy (holder temp) 21) None (serving site) w) refl (omega arith) (is_inside p site.behind pc (pc + 1) _ w (omega arith) (omega arith))
+          (served (pc + 1) temp g1 (next p site.behind pc (copy (holder temp) 21) None (serving site) w) (kept_by_put regs 21 (bit_or (regs (21 + temp)) 0) (lit≤ tt) (lit≤ tt))
+          (put_other regs 21 (bit_or (regs (21 + temp)) 0) 31 refl) (copied (regs (21 + temp)) ∙ value))

@@ -44,7 +44,7 @@ use Rattle.block_law.specs.Placements.{Placement}
 use Rattle.block_law.proofs.Rules.{Always, roomy}
 use Rattle.program_codegen.specs.declared.lines.Line.{Line}
 use Rattle.program_codegen.specs.declared.points.Site.{Site}
-use Rattle.program_codegen.specs.Words.{plain, marked, holder, copy, probing, raising, leaving, departing, trap_lines, lines_of, program_lines, read_by, write_by}
+use Rattle.program_codegen.specs.Words.{plain, marked, holder, copy, code_copied, serving, probing, raising, leaving, departing, trap_lines, lines_of, program_lines, read_by, write_by}
 use Rattle.program_codegen.specs.Programs.{HasWords, IsExit, ReadsReady, LeavesReady, rule_of}
 use Rattle.program_codegen.proofs.Knowing.{walk_fits, nothing_behind, write_changes}
 use Rattle.program_codegen.proofs.Walk.{Within, next, row_rest, row_length}
@@ -72,7 +72,11 @@ departs site Next = lit≤ tt
 departs site (Fixed address) = lit≤ tt
 departs site (Computed temp) = lit≤ tt
 departs site (Choice when taken other) = lit≤ tt
-departs site (Service temp) = lit≤ tt
+departs site (Service temp) = by (temp == 0)
+  where
+    by : (b : Bool) → 1 ≤ length (code_copied b temp ++ serving site)
+    by true = lit≤ tt
+    by false = lit≤ tt
 departs site Breakpoint = lit≤ tt
 
 -- a program that leaves has words

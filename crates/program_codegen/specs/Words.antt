@@ -1,7 +1,7 @@
 -- The words of a micro program's block, with the points and the exits of those that have one. R21 to R26 hold the
 -- temporaries 0 to 5, and R27 is scratch.
 -- Alpha Architecture Reference Manual, "Call Privileged Architecture Library": the numbers are this system's own.
-use Rattle.std.specs.Prelude.{ℕ, pos, ◌+◌, Bool, true, false, List, [], ◌∷◌, ◌++◌, length, map, Option, Some, None, unwrap_or, if◌then◌else◌}
+use Rattle.std.specs.Prelude.{ℕ, pos, ◌+◌, ◌==◌, Bool, true, false, List, [], ◌∷◌, ◌++◌, length, map, Option, Some, None, unwrap_or, if◌then◌else◌}
 use Rattle.vax_form.specs.declared.instr.Instr.{Instr}
 use Rattle.vax_form.specs.declared.instr.Size.{Size}
 use Rattle.vax_form.specs.declared.instr.Size.TheVariants as sizes
@@ -145,14 +145,20 @@ abbrev pub trap_lines : Site → Exit → List Line
 trap_lines site exit = if may_trap site then tested_lines site.behind.v (overflow_made site.behind.v) (overflow_lines site exit) else []
 
 -- ---- leaving
--- a computed exit looks its address up in R26; a service has its code in R21, and the PC behind it in R26
+-- a service has its code in R21, where temporary 0 stands, and the PC behind it in R26
+abbrev pub code_copied : (there : Bool) → (temp : ℕ) → List Line
+code_copied there temp = if there then [] else plain (copy (holder temp) TEMPORARIES) ∷ []
+
+abbrev pub serving : Site → List Line
+serving site = map plain (load_longword TARGET site.after) ++ (marked (Pal SERVE) (point_of site) ∷ exit_lines site.after)
+
+-- a computed exit looks its address up in R26
 abbrev pub departing : Site → Exit → List Line
 departing site Next = exit_lines site.after
 departing site (Fixed address) = exit_lines address
 departing site (Computed temp) = plain (copy (holder temp) TARGET) ∷ plain (Pal LOOK_UP) ∷ []
 departing site (Choice when taken other) = plain (Branch Beq (holder when) (pos 3)) ∷ (exit_lines taken ++ exit_lines other)
-departing site (Service temp) =
-    plain (copy (holder temp) TEMPORARIES) ∷ (map plain (load_longword TARGET site.after) ++ (marked (Pal SERVE) (point_of site) ∷ exit_lines site.after))
+departing site (Service temp) = code_copied (temp == 0) temp ++ serving site
 departing site Breakpoint = marked (Pal RAISE) (raising site 0x2C) ∷ []
 
 abbrev pub leaving : Site → (codes : List AlphaInstr) → Exit → List Line

@@ -206,13 +206,11 @@ fn push_service(lines: &mut Vec<Line>, site: Site, temp: u8) -> Result<(), Alloc
     requires { IsExit (Exit.Service temp) }
     ensures { OnOk result (lines.new.items ≡ lines.old.items ++ departing site (Exit.Service temp)) }
 {
+    if holder(temp) != CODE {
+        lines.push(plain(copy(holder(temp), CODE)))?;
+    }
     let [high, low] = load_longword(TARGET, site.after);
-    lines.extend_from_slice(&[
-        plain(copy(holder(temp), CODE)),
-        plain(high),
-        plain(low),
-        marked(SERVE, point_of(site)),
-    ])?;
+    lines.extend_from_slice(&[plain(high), plain(low), marked(SERVE, point_of(site))])?;
     push_exit(lines, site.after)
 }
 
