@@ -44,7 +44,7 @@ row1 : spelled (block false (sources_of (op.Move sizes.Long)) ((Compute 1 comput
 unfolding sources_of
 row1 = refl
 
-row2 : spelled (block false (sources_of (op.TwoOperands Add Long)) ((Compute 0 compute.Move sizes.Long (Register 1) (Const 0)) ∷ (Compute 3 compute.Move sizes.Long (Register 2) (Const 0)) ∷ (Probe 3 4 true) ∷ (Read 1 3 4) ∷ (Compute 2 compute.Add sizes.Long (Temp 0) (Temp 1)) ∷ (Write 3 4 2) ∷ (Compute 6 compute.ShiftRight sizes.Long (Temp 2) (Const 31)) ∷ (Compute 7 compute.Equal sizes.Long (Temp 2) (Const 0)) ∷ (Compute 10 compute.SignExtend sizes.Long (Temp 0) (Const 0)) ∷ (Compute 11 compute.SignExtend sizes.Long (Temp 1) (Const 0)) ∷ (Compute 10 compute.Add sizes.Quad (Temp 10) (Temp 11)) ∷ (Compute 11 compute.SignExtend sizes.Long (Temp 2) (Const 0)) ∷ (Compute 8 compute.Equal sizes.Quad (Temp 10) (Temp 11)) ∷ (Compute 8 compute.Xor sizes.Byte (Temp 8) (Const 1)) ∷ (Compute 9 compute.LessUnsigned sizes.Long (Temp 2) (Temp 0)) ∷ (Codes 6 7 8 (Some 9)) ∷ (Leave Next) ∷ []) (codes false false false true)) ≡ (0x4841F638 ∷ 0x4700141B ∷ 0x00000080 ∷ 0x47007019 ∷ 0xE7200009 ∷ 0x4700901A ∷ 0x2F380000 ∷ 0x4B3804D9 ∷ 0xE7400003 ∷ 0x2F580003 ∷ 0x4B580D5A ∷ 0x473A0419 ∷ 0x43201016 ∷ 0xC3E00001 ∷ 0xA2D80000 ∷ 0x40360017 ∷ 0x47007019 ∷ 0xE7200012 ∷ 0x4700F11B ∷ 0xAF3B0000 ∷ 0x4B380459 ∷ 0x4AF8057A ∷ 0x473A0419 ∷ 0xBF3B0000 ∷ 0xE73FFFFA ∷ 0x4700F019 ∷ 0x4320B3B9 ∷ 0xF7200007 ∷ 0x4361141B ∷ 0xAF3B0000 ∷ 0x4B380C59 ∷ 0x4AF80CFA ∷ 0x473A0419 ∷ 0xBF3B0000 ∷ 0xE73FFFFA ∷ 0xC3E00001 ∷ 0xB2F80000 ∷ 0x42E103B3 ∷ 0x47E1041C ∷ 0x47F6041D ∷ 0x4684101B ∷ 0xE760000B ∷ 0x4380101B ∷ 0x43A01018 ∷ 0x43780418 ∷ 0x4300101B ∷ 0x437805B8 ∷ 0x47003818 ∷ 0xE7000004 ∷ 0x275F0000 ∷ 0x235A0204 ∷ 0x22BF0001 ∷ 0x00000084 ∷ 0x47FF041F ∷ 0x47FF041F ∷ 0x47FF041F ∷ [], (0x35, 0x204) ∷ [], point 0x0 0 0 false 0x0 all_ready ∷ point 0x2 0 4 true 0x0 all_ready ∷ point 0x34 1 0 false 0x0 (rules_behind (sources_of (op.TwoOperands Add Long)) (codes false false false true) all_ready) ∷ [])
+row2 : spelled (block false (sources_of (op.TwoOperands Add Long)) ((Compute 0 compute.Move sizes.Long (Register 1) (Const 0)) ∷ (Compute 3 compute.Move sizes.Long (Register 2) (Const 0)) ∷ (Probe 3 4 true) ∷ (Read 1 3 4) ∷ (Compute 2 compute.Add sizes.Long (Temp 0) (Temp 1)) ∷ (Write 3 4 2) ∷ (Compute 6 compute.ShiftRight sizes.Long (Temp 2) (Const 31)) ∷ (Compute 7 compute.Equal sizes.Long (Temp 2) (Const 0)) ∷ (Compute 10 compute.SignExtend sizes.Long (Temp 0) (Const 0)) ∷ (Compute 11 compute.SignExtend sizes.Long (Temp 1) (Const 0)) ∷ (Compute 10 compute.Add sizes.Quad (Temp 10) (Temp 11)) ∷ (Compute 11 compute.SignExtend sizes.Long (Temp 2) (Const 0)) ∷ (Compute 8 compute.Equal sizes.Quad (Temp 10) (Temp 11)) ∷ (Compute 8 compute.Xor sizes.Byte (Temp 8) (Const 1)) ∷ (Compute 9 compute.LessUnsigned sizes.Long (Temp 2) (Temp 0)) ∷ (Codes 6 7 8 (Some 9)) ∷ (Leave Next) ∷ []) (codes false false false true)) ≡ (0x4440141B ∷ 0x00000080 ∷ 0x44407019 ∷ 0xE7200009 ∷ 0x4440901A ∷ 0x2F220000 ∷ 0x4B2204D9 ∷ 0xE7400003 ∷ 0x2F420003 ∷ 0x4B420D5A ∷ 0x473A0419 ∷ 0x43201016 ∷ 0xC3E00001 ∷ 0xA2C20000 ∷ 0x40360017 ∷ 0x44407019 ∷ 0xE7200012 ∷ 0x4440F11B ∷ 0xAF3B0000 ∷ 0x4B220459 ∷ 0x4AE2057A ∷ 0x473A0419 ∷ 0xBF3B0000 ∷ 0xE73FFFFA ∷ 0x4440F019 ∷ 0x4320B3B9 ∷ 0xF7200007 ∷ 0x4361141B ∷ 0xAF3B0000 ∷ 0x4B220C59 ∷ 0x4AE20CFA ∷ 0x473A0419 ∷ 0xBF3B0000 ∷ 0xE73FFFFA ∷ 0xC3E00001 ∷ 0xB2E20000 ∷ 0x42E103B3 ∷ 0x47E1041C ∷ 0x47F6041D ∷ 0x4684101B ∷ 0xE760000B ∷ 0x4380101B ∷ 0x43A01018 ∷ 0x43780418 ∷ 0x4300101B ∷ 0x437805B8 ∷ 0x47003818 ∷ 0xE7000004 ∷ 0x275F0000 ∷ 0x235A0204 ∷ 0x22BF0001 ∷ 0x00000084 ∷ 0x47FF041F ∷ 0x47FF041F ∷ 0x47FF041F ∷ [], (0x34, 0x204) ∷ [], point 0x0 0 0 false 0x0 all_ready ∷ point 0x1 0 4 true 0x0 all_ready ∷ point 0x33 1 0 false 0x0 (rules_behind (sources_of (op.TwoOperands Add Long)) (codes false false false true) all_ready) ∷ [])
 unfolding sources_of
 row2 = refl
 
@@ -52,10 +52,10 @@ row3 : spelled (block false (sources_of (op.SubtractOneBranch false)) ((Compute 
 unfolding sources_of
 row3 = refl
 
-row4 : spelled (block true (sources_of (op.Move sizes.Byte)) ((Compute 1 compute.Move sizes.Long (Register 1) (Const 0)) ∷ (Probe 1 1 false) ∷ (Read 2 1 1) ∷ (Compute 3 compute.Move sizes.Long (Register 2) (Const 0)) ∷ (Probe 3 1 true) ∷ (Write 3 1 2) ∷ (Leave Next) ∷ []) (codes false false false false)) ≡ (0x4420141B ∷ 0x00000080 ∷ 0x2AE10000 ∷ 0x4841F638 ∷ 0x4700141B ∷ 0x00000080 ∷ 0x3AF80000 ∷ 0x47F7041C ∷ 0x47FF041F ∷ 0x47FF041F ∷ 0x47FF041F ∷ [], (0x8, 0x204) ∷ [], point 0x0 0 0 false 0x0 all_ready ∷ point 0x1 0 1 false 0x0 all_ready ∷ point 0x5 0 1 true 0x0 all_ready ∷ [])
+row4 : spelled (block true (sources_of (op.Move sizes.Byte)) ((Compute 1 compute.Move sizes.Long (Register 1) (Const 0)) ∷ (Probe 1 1 false) ∷ (Read 2 1 1) ∷ (Compute 3 compute.Move sizes.Long (Register 2) (Const 0)) ∷ (Probe 3 1 true) ∷ (Write 3 1 2) ∷ (Leave Next) ∷ []) (codes false false false false)) ≡ (0x4420141B ∷ 0x00000080 ∷ 0x2AE10000 ∷ 0x4440141B ∷ 0x00000080 ∷ 0x3AE20000 ∷ 0x47F7041C ∷ 0x47FF041F ∷ 0x47FF041F ∷ 0x47FF041F ∷ [], (0x7, 0x204) ∷ [], point 0x0 0 0 false 0x0 all_ready ∷ point 0x1 0 1 false 0x0 all_ready ∷ point 0x4 0 1 true 0x0 all_ready ∷ [])
 unfolding sources_of
 row4 = refl
 
-row5 : spelled (block true (sources_of (op.Move sizes.Word)) ((Compute 1 compute.Move sizes.Long (Register 1) (Const 0)) ∷ (Probe 1 2 false) ∷ (Read 2 1 2) ∷ (Compute 3 compute.Move sizes.Long (Register 2) (Const 0)) ∷ (Probe 3 2 true) ∷ (Write 3 2 2) ∷ (Leave Next) ∷ []) (codes false false false false)) ≡ (0x4420141B ∷ 0x00000080 ∷ 0xF0200002 ∷ 0x32E10000 ∷ 0xC3E00009 ∷ 0x4420F01A ∷ 0x4340F3BA ∷ 0x2F210000 ∷ 0x4B2102D9 ∷ 0xF7400003 ∷ 0x2F410001 ∷ 0x4B410B5A ∷ 0x473A0419 ∷ 0x47201417 ∷ 0x4841F638 ∷ 0x4700141B ∷ 0x00000080 ∷ 0xF3000002 ∷ 0x36F80000 ∷ 0xC3E00011 ∷ 0x4700F11B ∷ 0xAF3B0000 ∷ 0x4B380259 ∷ 0x4AF8037A ∷ 0x473A0419 ∷ 0xBF3B0000 ∷ 0xE73FFFFA ∷ 0x4700F019 ∷ 0x4320F3B9 ∷ 0xF7200007 ∷ 0x4361141B ∷ 0xAF3B0000 ∷ 0x4B380A59 ∷ 0x4AF80AFA ∷ 0x473A0419 ∷ 0xBF3B0000 ∷ 0xE73FFFFA ∷ 0x47F7041C ∷ 0x47FF041F ∷ 0x47FF041F ∷ 0x47FF041F ∷ [], (0x26, 0x204) ∷ [], point 0x0 0 0 false 0x0 all_ready ∷ point 0x1 0 2 false 0x0 all_ready ∷ point 0x10 0 2 true 0x0 all_ready ∷ [])
+row5 : spelled (block true (sources_of (op.Move sizes.Word)) ((Compute 1 compute.Move sizes.Long (Register 1) (Const 0)) ∷ (Probe 1 2 false) ∷ (Read 2 1 2) ∷ (Compute 3 compute.Move sizes.Long (Register 2) (Const 0)) ∷ (Probe 3 2 true) ∷ (Write 3 2 2) ∷ (Leave Next) ∷ []) (codes false false false false)) ≡ (0x4420141B ∷ 0x00000080 ∷ 0xF0200002 ∷ 0x32E10000 ∷ 0xC3E00009 ∷ 0x4420F01A ∷ 0x4340F3BA ∷ 0x2F210000 ∷ 0x4B2102D9 ∷ 0xF7400003 ∷ 0x2F410001 ∷ 0x4B410B5A ∷ 0x473A0419 ∷ 0x47201417 ∷ 0x4440141B ∷ 0x00000080 ∷ 0xF0400002 ∷ 0x36E20000 ∷ 0xC3E00011 ∷ 0x4440F11B ∷ 0xAF3B0000 ∷ 0x4B220259 ∷ 0x4AE2037A ∷ 0x473A0419 ∷ 0xBF3B0000 ∷ 0xE73FFFFA ∷ 0x4440F019 ∷ 0x4320F3B9 ∷ 0xF7200007 ∷ 0x4361141B ∷ 0xAF3B0000 ∷ 0x4B220A59 ∷ 0x4AE20AFA ∷ 0x473A0419 ∷ 0xBF3B0000 ∷ 0xE73FFFFA ∷ 0x47F7041C ∷ 0x47FF041F ∷ 0x47FF041F ∷ 0x47FF041F ∷ [], (0x25, 0x204) ∷ [], point 0x0 0 0 false 0x0 all_ready ∷ point 0x1 0 2 false 0x0 all_ready ∷ point 0xF 0 2 true 0x0 all_ready ∷ [])
 unfolding sources_of
 row5 = refl

@@ -63,7 +63,7 @@ row6 : longest (sources_of (op.ThreeOperands Add Long)) ((Compute 0 compute.Move
 unfolding longest
 row6 = refl
 
-row7 : longest (sources_of (op.ThreeOperands Add Byte)) ((Compute 0 compute.Move sizes.Long (Register 1) (Const 0)) ∷ (Probe 0 4 false) ∷ (Read 2 0 4) ∷ (Compute 2 compute.Add sizes.Long (Temp 2) (Register 2)) ∷ (Probe 2 1 false) ∷ (Read 0 2 1) ∷ (Compute 1 compute.Add sizes.Long (Register 1) (Const 4)) ∷ (Probe 1 4 false) ∷ (Read 2 1 4) ∷ (Compute 2 compute.Add sizes.Long (Temp 2) (Register 2)) ∷ (Probe 2 1 false) ∷ (Read 1 2 1) ∷ (Compute 2 compute.Add sizes.Byte (Temp 0) (Temp 1)) ∷ (Compute 5 compute.Add sizes.Long (Register 1) (Const 8)) ∷ (Compute 5 compute.AndNot sizes.Long (Temp 5) (Const 255)) ∷ (Compute 5 compute.Or sizes.Long (Temp 5) (Temp 2)) ∷ (Commit 1 5) ∷ (Compute 6 compute.ShiftRight sizes.Byte (Temp 2) (Const 7)) ∷ (Compute 7 compute.Equal sizes.Byte (Temp 2) (Const 0)) ∷ (Compute 10 compute.SignExtend sizes.Byte (Temp 0) (Const 0)) ∷ (Compute 11 compute.SignExtend sizes.Byte (Temp 1) (Const 0)) ∷ (Compute 10 compute.Add sizes.Quad (Temp 10) (Temp 11)) ∷ (Compute 11 compute.SignExtend sizes.Byte (Temp 2) (Const 0)) ∷ (Compute 8 compute.Equal sizes.Quad (Temp 10) (Temp 11)) ∷ (Compute 8 compute.Xor sizes.Byte (Temp 8) (Const 1)) ∷ (Compute 9 compute.LessUnsigned sizes.Byte (Temp 2) (Temp 0)) ∷ (Codes 6 7 8 (Some 9)) ∷ (Leave Next) ∷ []) ≡ 0x49
+row7 : longest (sources_of (op.ThreeOperands Add Byte)) ((Compute 0 compute.Move sizes.Long (Register 1) (Const 0)) ∷ (Probe 0 4 false) ∷ (Read 2 0 4) ∷ (Compute 2 compute.Add sizes.Long (Temp 2) (Register 2)) ∷ (Probe 2 1 false) ∷ (Read 0 2 1) ∷ (Compute 1 compute.Add sizes.Long (Register 1) (Const 4)) ∷ (Probe 1 4 false) ∷ (Read 2 1 4) ∷ (Compute 2 compute.Add sizes.Long (Temp 2) (Register 2)) ∷ (Probe 2 1 false) ∷ (Read 1 2 1) ∷ (Compute 2 compute.Add sizes.Byte (Temp 0) (Temp 1)) ∷ (Compute 5 compute.Add sizes.Long (Register 1) (Const 8)) ∷ (Compute 5 compute.AndNot sizes.Long (Temp 5) (Const 255)) ∷ (Compute 5 compute.Or sizes.Long (Temp 5) (Temp 2)) ∷ (Commit 1 5) ∷ (Compute 6 compute.ShiftRight sizes.Byte (Temp 2) (Const 7)) ∷ (Compute 7 compute.Equal sizes.Byte (Temp 2) (Const 0)) ∷ (Compute 10 compute.SignExtend sizes.Byte (Temp 0) (Const 0)) ∷ (Compute 11 compute.SignExtend sizes.Byte (Temp 1) (Const 0)) ∷ (Compute 10 compute.Add sizes.Quad (Temp 10) (Temp 11)) ∷ (Compute 11 compute.SignExtend sizes.Byte (Temp 2) (Const 0)) ∷ (Compute 8 compute.Equal sizes.Quad (Temp 10) (Temp 11)) ∷ (Compute 8 compute.Xor sizes.Byte (Temp 8) (Const 1)) ∷ (Compute 9 compute.LessUnsigned sizes.Byte (Temp 2) (Temp 0)) ∷ (Codes 6 7 8 (Some 9)) ∷ (Leave Next) ∷ []) ≡ 0x48
 unfolding longest
 row7 = refl
 
@@ -115,11 +115,11 @@ row19 : longest (sources_of (op.MoveAddress sizes.Quad)) ((Compute 1 compute.Mov
 unfolding longest
 row19 = refl
 
-row20 : longest (sources_of (op.PushAddress sizes.Quad)) ((Compute 1 compute.Move sizes.Long (Register 14) (Const 0)) ∷ (Probe 1 4 false) ∷ (Read 0 1 4) ∷ (Compute 4 compute.Mul sizes.Long (Register 2) (Const 8)) ∷ (Compute 0 compute.Add sizes.Long (Temp 0) (Temp 4)) ∷ (Compute 3 compute.Move sizes.Long (Register 14) (Const 0)) ∷ (Probe 3 4 true) ∷ (Write 3 4 0) ∷ (Compute 2 compute.Move sizes.Long (Temp 0) (Const 0)) ∷ (Compute 6 compute.ShiftRight sizes.Long (Temp 2) (Const 31)) ∷ (Compute 7 compute.Equal sizes.Long (Temp 2) (Const 0)) ∷ (Compute 8 compute.Move sizes.Byte (Const 0) (Const 0)) ∷ (Codes 6 7 8 None) ∷ (Leave Next) ∷ []) ≡ 0x31
+row20 : longest (sources_of (op.PushAddress sizes.Quad)) ((Compute 1 compute.Move sizes.Long (Register 14) (Const 0)) ∷ (Probe 1 4 false) ∷ (Read 0 1 4) ∷ (Compute 4 compute.Mul sizes.Long (Register 2) (Const 8)) ∷ (Compute 0 compute.Add sizes.Long (Temp 0) (Temp 4)) ∷ (Compute 3 compute.Move sizes.Long (Register 14) (Const 0)) ∷ (Probe 3 4 true) ∷ (Write 3 4 0) ∷ (Compute 2 compute.Move sizes.Long (Temp 0) (Const 0)) ∷ (Compute 6 compute.ShiftRight sizes.Long (Temp 2) (Const 31)) ∷ (Compute 7 compute.Equal sizes.Long (Temp 2) (Const 0)) ∷ (Compute 8 compute.Move sizes.Byte (Const 0) (Const 0)) ∷ (Codes 6 7 8 None) ∷ (Leave Next) ∷ []) ≡ 0x30
 unfolding longest
 row20 = refl
 
-row21 : longest (sources_of op.PushLong) ((Compute 0 compute.Move sizes.Long (Register 14) (Const 0)) ∷ (Probe 0 4 false) ∷ (Read 1 0 4) ∷ (Compute 4 compute.Add sizes.Long (Register 2) (Register 2)) ∷ (Compute 4 compute.Add sizes.Long (Temp 4) (Temp 4)) ∷ (Compute 1 compute.Add sizes.Long (Temp 1) (Temp 4)) ∷ (Probe 1 4 false) ∷ (Read 0 1 4) ∷ (Compute 3 compute.Move sizes.Long (Register 14) (Const 0)) ∷ (Probe 3 4 true) ∷ (Write 3 4 0) ∷ (Compute 2 compute.Move sizes.Long (Temp 0) (Const 0)) ∷ (Compute 6 compute.ShiftRight sizes.Long (Temp 2) (Const 31)) ∷ (Compute 7 compute.Equal sizes.Long (Temp 2) (Const 0)) ∷ (Compute 8 compute.Move sizes.Byte (Const 0) (Const 0)) ∷ (Codes 6 7 8 None) ∷ (Leave Next) ∷ []) ≡ 0x40
+row21 : longest (sources_of op.PushLong) ((Compute 0 compute.Move sizes.Long (Register 14) (Const 0)) ∷ (Probe 0 4 false) ∷ (Read 1 0 4) ∷ (Compute 4 compute.Add sizes.Long (Register 2) (Register 2)) ∷ (Compute 4 compute.Add sizes.Long (Temp 4) (Temp 4)) ∷ (Compute 1 compute.Add sizes.Long (Temp 1) (Temp 4)) ∷ (Probe 1 4 false) ∷ (Read 0 1 4) ∷ (Compute 3 compute.Move sizes.Long (Register 14) (Const 0)) ∷ (Probe 3 4 true) ∷ (Write 3 4 0) ∷ (Compute 2 compute.Move sizes.Long (Temp 0) (Const 0)) ∷ (Compute 6 compute.ShiftRight sizes.Long (Temp 2) (Const 31)) ∷ (Compute 7 compute.Equal sizes.Long (Temp 2) (Const 0)) ∷ (Compute 8 compute.Move sizes.Byte (Const 0) (Const 0)) ∷ (Codes 6 7 8 None) ∷ (Leave Next) ∷ []) ≡ 0x3F
 unfolding longest
 row21 = refl
 

@@ -114,7 +114,7 @@ module _ (site : Site) (codes : List AlphaInstr) (after_fits : site.after < 2 ^ 
       by : (o : Option (List Line)) → direct_lines site codes no_homes program ≡ o → Shape site false codes (addresses_of site.after program) (program_words site.sources program + 59) (unwrap_or o (program_lines site codes program))
       by None e = program_shape site codes after_fits encodable few only together program at_start refl ended words (λ e. (refl, refl))
       by (Some lines) e =
-          let shape = direct_shape site codes after_fits encodable few only program no_homes (tt, tt, tt) (record { before = nothing_waits; last = nothing_waits }) lines false refl at_start e words refl ended in
+          let shape = direct_shape site codes after_fits encodable few only program no_homes (tt, tt, tt, tt) (record { before = nothing_waits; last = nothing_waits }) lines false refl at_start e words refl ended in
           let short = shape.short in
           record { each = shape.each; kept = shape.kept; goes = shape.goes; writes = shape.writes; short = omega arith }
 
@@ -133,13 +133,14 @@ module _ (p : Placement) (site : Site) (codes : List AlphaInstr) (setting : Sett
       by None e w = follows p site codes setting leaves program at_start standing regs pc w sized words reads ready refl ended h range agree
       by (Some lines) e w =
           direct_follows p site codes setting program no_homes lines at_start standing regs pc e w words reads refl ended (refl, refl)
-          (record { holds = h; are = (tt, tt, tt); values = λ temp r home. absurd (none temp r home) }) sized (range, agree)
+          (record { holds = h; are = (tt, tt, tt, tt); values = λ temp r home. absurd (none temp r home) }) sized (range, agree)
         where
           none : (temp r : ℕ) → home_of no_homes temp ≡ Some r → ⊥
-          none temp r home = absurd (by_test (temp == 0) (temp == 1) (temp == 2) home)
+          none temp r home = absurd (by_test (temp == 0) (temp == 1) (temp == 2) (temp == 3) home)
             where
-              by_test : (a b c : Bool) → (if a then None else if b then None else if c then None else None) ≡ Some r → ⊥
-              by_test true b c e = absurd (cc e)
-              by_test false true c e = absurd (cc e)
-              by_test false false true e = absurd (cc e)
-              by_test false false false e = absurd (cc e)
+              by_test : (a b c d : Bool) → (if a then None else if b then None else if c then None else if d then None else None) ≡ Some r → ⊥
+              by_test true b c d e = absurd (cc e)
+              by_test false true c d e = absurd (cc e)
+              by_test false false true d e = absurd (cc e)
+              by_test false false false true e = absurd (cc e)
+              by_test false false false false e = absurd (cc e)

@@ -20,7 +20,7 @@ use Rattle.alpha_meaning.specs.State.{Regs, put}
 use Rattle.alpha_meaning.proofs.Registers.{put_same, put_other}
 use Rattle.block_law.specs.CodeWords.{may_be_written}
 use Rattle.micro_ops.specs.declared.codes.CodeSources.{CodeSources}
-use Rattle.program_codegen.specs.Homes.{AreHomes, IsHome, compared_raised, have_homes, home_at, is_choice, is_operand, is_operand_second, is_raised, lowered_word, moved_both, moved_by, moved_first, moved_from, moved_operand, moved_step, moved_word, raised_at, raised_home, raised_second, raised_step, second_home, unmoved, when, with_raised, with_word}
+use Rattle.program_codegen.specs.Homes.{AreLasting, IsLasting, compared_raised, have_homes, home_at, is_choice, is_operand, is_operand_second, is_raised, lowered_word, moved_both, moved_by, moved_first, moved_from, moved_operand, moved_step, moved_word, raised_at, raised_home, raised_second, raised_step, second_home, unmoved, when, with_raised, with_word}
 use Rattle.program_codegen.specs.declared.direct.Raised.{Raised}
 use Rattle.program_codegen.specs.declared.homes.Homes.{Homes}
 use Rattle.program_codegen.proofs.Numbers.{all_three}
@@ -62,19 +62,19 @@ with_effects None words f = refl
 with_effects (Some word) words f = refl
 
 -- ---- registers that no word for the codes writes
-pub home_is : (homes : Homes) → AreHomes homes → (n r : ℕ) → home_at homes n ≡ Some r → IsHome (Some r)
+pub home_is : (homes : Homes) → AreLasting homes → (n r : ℕ) → home_at homes n ≡ Some r → IsLasting (Some r)
 home_is homes are n r e = by (n == 21) (n == 22) (n == 23) e
   where
-    picked : (o : Option ℕ) → IsHome o → o ≡ Some r → IsHome (Some r)
-    picked o is same = subst IsHome same is
+    picked : (o : Option ℕ) → IsLasting o → o ≡ Some r → IsLasting (Some r)
+    picked o is same = subst IsLasting same is
 
-    by : (a b c : Bool) → (if a then homes.first else if b then homes.second else if c then homes.result else None) ≡ Some r → IsHome (Some r)
+    by : (a b c : Bool) → (if a then homes.first else if b then homes.second else if c then homes.result else None) ≡ Some r → IsLasting (Some r)
     by true b c e = picked homes.first are.0 e
     by false true c e = picked homes.second are.1 e
     by false false true e = picked homes.result are.2 e
     by false false false e = absurd (cc e)
 
-pub home_stays : (sources : CodeSources) (r : ℕ) → IsHome (Some r) → may_be_written sources r ≡ false
+pub home_stays : (sources : CodeSources) (r : ℕ) → IsLasting (Some r) → may_be_written sources r ≡ false
 home_stays sources r is = by (nat_lt r 15) refl
   where
     by : (b : Bool) → nat_lt r 15 ≡ b → may_be_written sources r ≡ false
@@ -141,12 +141,12 @@ pub record Moved (homes : Homes) (raised : Raised) (own placed : Regs) : Type 0 
   pub same : (n : ℕ) → is_operand n ≡ false → home_at homes n ≡ None → raised_at raised n ≡ None → own n ≡ placed n
   pub loose : (n : ℕ) → is_operand n ≡ true → own n % 2 ^ 32 ≡ placed n % 2 ^ 32
   pub there : (n r : ℕ) → home_at homes n ≡ Some r → (own n ≡ placed r % 2 ^ 32) × IsExtended (placed r)
-  pub lifted : (n r : ℕ) → raised_at raised n ≡ Some r → (own n ≡ left (placed r) 32) × IsExtended (placed r) × IsHome (Some r)
+  pub lifted : (n r : ℕ) → raised_at raised n ≡ Some r → (own n ≡ left (placed r) 32) × IsExtended (placed r) × IsLasting (Some r)
 
 put_here : (c : ℕ) → (c == 31) ≡ false → (f : Regs) (v n : ℕ) → (n == c) ≡ true → put f c v n ≡ v
 put_here c not_zero f v n e = subst (λ k. put f c v k ≡ v) (sym (eqb-true n c e)) (put_same f c v not_zero)
 
-module _ (sources : CodeSources) (homes : Homes) (are : AreHomes homes) where
+module _ (sources : CodeSources) (homes : Homes) (are : AreLasting homes) where
   -- a register is written alike
   written_alike : (c x y : ℕ) (raised : Raised) (own placed : Regs) → may_be_written sources c ≡ true → x % 2 ^ 32 ≡ y % 2 ^ 32 → (is_operand c ≡ false → x ≡ y) → Moved homes raised own placed → Moved homes (with_raised c None raised) (put own c x) (put placed c y)
   written_alike c x y raised own placed may low same m = record {
@@ -325,10 +325,10 @@ module _ (sources : CodeSources) (homes : Homes) (are : AreHomes homes) where
             absurd (cc none)
         not_home n r e false f = f
 
-        lifts : (n r : ℕ) → raised_at (lifting c x) n ≡ Some r → (b : Bool) → (n == c) ≡ b → (put own c v n ≡ left (placed r) 32) × IsExtended (placed r) × IsHome (Some r)
+        lifts : (n r : ℕ) → raised_at (lifting c x) n ≡ Some r → (b : Bool) → (n == c) ≡ b → (put own c v n ≡ left (placed r) 32) × IsExtended (placed r) × IsLasting (Some r)
         lifts n r e true f =
             let same : x ≡ r = same_Some x r (sym (raised_same c (Some x) raised is) ∙ subst (λ k. raised_at (lifting c x) k ≡ Some r) (eqb-true n c f) e) in
-            subst (λ (r : ℕ). (put own c v n ≡ left (placed r) 32) × IsExtended (placed r) × IsHome (Some r)) same
+            subst (λ (r : ℕ). (put own c v n ≡ left (placed r) 32) × IsExtended (placed r) × IsLasting (Some r)) same
             (put_here c (raised_apart c homes is).2 own v n f ∙ value, there.1, home_is homes are a x some)
         lifts n r e false f =
             let found = m.lifted n r (sym (raised_other c n (Some x) raised f) ∙ e) in
@@ -404,7 +404,7 @@ split homes raised i is js e = by (moved_step homes raised i) refl e
     by None f e = absurd (cc e)
     by (Some step) f e = rests step f (moved_from homes step.0 is) refl e
 
-module _ (sources : CodeSources) (homes : Homes) (are : AreHomes homes) where
+module _ (sources : CodeSources) (homes : Homes) (are : AreLasting homes) where
   pub moved_effects : (is js : List AlphaInstr) (raised : Raised) (own placed : Regs) → list_all (fine (may_be_written sources)) is ≡ true → moved_from homes raised is ≡ Some js → Moved homes raised own placed
       → (behind : Raised) × Moved homes behind (effects is own) (effects js placed)
   moved_effects [] js raised own placed ok e m = (raised, subst (λ js. Moved homes raised own (effects js placed)) (same_Some [] js e) m)

@@ -46,7 +46,7 @@ use Rattle.block_law.proofs.Rules.{Always, operates, roomy}
 use Rattle.program_codegen.specs.declared.homes.Homes.{Homes}
 use Rattle.program_codegen.specs.declared.lines.Line.{Line}
 use Rattle.program_codegen.specs.declared.points.Site.{Site}
-use Rattle.program_codegen.specs.Homes.{AreHomes, IsHome, code_by, compared, comparison, copied, direct_code, extended_first, extended_register, extended_second, home_by, home_of, is_copying, is_direct, is_shared, is_short_constant, joined_word, literal_word, long_operation, made, made_size, new_home, one_word, placed, stands_in, with_home, is_exact, is_sized}
+use Rattle.program_codegen.specs.Homes.{AreHomes, IsHome, code_by, compared, comparison, copied, direct_code, extended_first, extended_register, extended_second, home_by, home_of, is_copying, is_direct, is_shared, is_short_constant, joined_word, literal_word, long_operation, made, made_operation, made_size, new_home, one_word, placed, stands_in, sum_operation, with_home, is_exact, is_sized}
 use Rattle.program_codegen.specs.Programs.{rule_of}
 use Rattle.program_codegen.specs.Words.{holder, plain}
 use Rattle.program_codegen.proofs.Computing.{argument_is, computation_runs, computed_holds, kept_apart, temp_apart, zero_apart}
@@ -103,6 +103,19 @@ gives AndNot o x s h held e is is' =
     subst (λ o. Gives AndNot (result_of o x s h) x s held) (same_Some row.Bic o e)
     (record { extended = extended_and x (inverse s) is (extended_inverse s is'); value = clears.lowers Long x s h held (fits x is) (fits s is') })
 gives op o x s h held e is is' = absurd (cc e)
+
+-- what is made is a long operation
+pub made_long : (to : ℕ) (op : MicroOp) (o : OperateOp) → made_operation to op ≡ Some o → long_operation op ≡ Some o
+made_long to op o e = by (to == 2) op e
+  where
+    by : (c : Bool) (op : MicroOp) → (if c then long_operation op else sum_operation op) ≡ Some o → long_operation op ≡ Some o
+    by true op e = e
+    by false Add e = e
+    by false Sub e = e
+    by false op e = absurd (cc e)
+
+pub few_low : (to : ℕ) → nat_lt to 3 ≡ true → nat_lt to 4 ≡ true
+few_low to lt = grind (arith, nat_tests, lt)
 
 -- a comparison tells what it tells of the low longwords
 tells : (op : MicroOp) (o : OperateOp) (x s h held : ℕ) → comparison op ≡ Some o → IsExtended x → IsExtended s → result_of o x s h ≡ value_from op Long (x % 2 ^ 32) (s % 2 ^ 32) held
@@ -187,11 +200,11 @@ pub record Literally (to : ℕ) (op : MicroOp) (size : Size) (a : Arg) (word : A
   pub is : word ≡ Operate row.Bis 31 (seconds.Literal value) (21 + to)
 
 pub made_word : (homes : Homes) (to : ℕ) (op : MicroOp) (size : Size) (a b : Arg) (word : AlphaInstr) → made homes to op size a b ≡ Some word
-    → Literally to op size a word ⊎ ((to ≡ 2) × (made_size op size ≡ Long) × Joined homes (long_operation op) a b 23 word)
+    → Literally to op size a word ⊎ ((nat_lt to 4 ≡ true) × (made_size op size ≡ Long) × Joined homes (made_operation to op) a b (21 + to) word)
 made_word homes to op size a b word e = first (nat_lt to 3 && is_moved op) refl e
   where
-    by : (c : Bool) → (to == 2) ≡ c → (if c then one_word (long_operation op) homes (made_size op size) a b 23 else None) ≡ Some word → (to ≡ 2) × (made_size op size ≡ Long) × Joined homes (long_operation op) a b 23 word
-    by true is e = let s = joined_long homes (long_operation op) (made_size op size) a b 23 word e in (eqb-true to 2 is, s.0, s.1)
+    by : (c : Bool) → nat_lt to 4 ≡ c → (if c then one_word (made_operation to op) homes (made_size op size) a b (21 + to) else None) ≡ Some word → (nat_lt to 4 ≡ true) × (made_size op size ≡ Long) × Joined homes (made_operation to op) a b (21 + to) word
+    by true is e = let s = joined_long homes (made_operation to op) (made_size op size) a b (21 + to) word e in (is, s.0, s.1)
     by false is e = absurd (cc e)
 
     literal : (a : Arg) → nat_lt to 3 ≡ true → is_moved op ≡ true → literal_word (21 + to) a ≡ Some word → Literally to op size a word
@@ -204,15 +217,15 @@ made_word homes to op size a b word e = first (nat_lt to 3 && is_moved op) refl 
     literal (arguments.Register number) few copies e = absurd (cc e)
     literal (arguments.Flag flag) few copies e = absurd (cc e)
 
-    first : (c : Bool) → (nat_lt to 3 && is_moved op) ≡ c → (if c then literal_word (21 + to) a else if to == 2 then one_word (long_operation op) homes (made_size op size) a b 23 else None) ≡ Some word
-        → Literally to op size a word ⊎ ((to ≡ 2) × (made_size op size ≡ Long) × Joined homes (long_operation op) a b 23 word)
+    first : (c : Bool) → (nat_lt to 3 && is_moved op) ≡ c → (if c then literal_word (21 + to) a else if nat_lt to 4 then one_word (made_operation to op) homes (made_size op size) a b (21 + to) else None) ≡ Some word
+        → Literally to op size a word ⊎ ((nat_lt to 4 ≡ true) × (made_size op size ≡ Long) × Joined homes (made_operation to op) a b (21 + to) word)
     first true is e = let x = and_parts (nat_lt to 3) (is_moved op) is in inl (literal a x.0 x.1 e)
-    first false is e = inr (by (to == 2) refl e)
+    first false is e = inr (by (nat_lt to 4) refl e)
 
 pub made_operates : (homes : Homes) (to : ℕ) (op : MicroOp) (size : Size) (a b : Arg) (word : AlphaInstr) → made homes to op size a b ≡ Some word → is_operate word ≡ true
 made_operates homes to op size a b word e = by (made_word homes to op size a b word e)
   where
-    by : Literally to op size a word ⊎ ((to ≡ 2) × (made_size op size ≡ Long) × Joined homes (long_operation op) a b 23 word) → is_operate word ≡ true
+    by : Literally to op size a word ⊎ ((nat_lt to 4 ≡ true) × (made_size op size ≡ Long) × Joined homes (made_operation to op) a b (21 + to) word) → is_operate word ≡ true
     by (inl c) = subst (λ (w : AlphaInstr). is_operate w ≡ true) (sym c.is) refl
     by (inr m) = subst (λ (w : AlphaInstr). is_operate w ≡ true) (sym m.2.is) refl
 
@@ -265,16 +278,17 @@ picked A false o r e = absurd (cc e)
 
 -- ---- where a register is shared
 pub not_shared : (homes : Homes) (to : ℕ) → is_shared homes to ≡ false → (temp r : ℕ) → (temp == to) ≡ false → home_of homes temp ≡ Some r → (r == (21 + to)) ≡ false
-not_shared homes to none temp r other e = by (temp == 0) refl (temp == 1) refl (temp == 2) refl e
+not_shared homes to none temp r other e = by (temp == 0) refl (temp == 1) refl (temp == 2) refl (temp == 3) refl e
   where
-    three : (a b c : Bool) → (a || b || c) ≡ false → (a ≡ false) × (b ≡ false) × (c ≡ false)
-    three false false false e = (refl, refl, refl)
-    three true b c e = absurd (cc e)
-    three false true c e = absurd (cc e)
-    three false false true e = absurd (cc e)
+    four : (a b c d : Bool) → (a || b || c || d) ≡ false → (a ≡ false) × (b ≡ false) × (c ≡ false) × (d ≡ false)
+    four false false false false e = (refl, refl, refl, refl)
+    four true b c d e = absurd (cc e)
+    four false true c d e = absurd (cc e)
+    four false false true d e = absurd (cc e)
+    four false false false true e = absurd (cc e)
 
-    parts : ((not (to == 0) && stands_in homes.first (21 + to)) ≡ false) × ((not (to == 1) && stands_in homes.second (21 + to)) ≡ false) × ((not (to == 2) && stands_in homes.result (21 + to)) ≡ false)
-    parts = three (not (to == 0) && stands_in homes.first (21 + to)) (not (to == 1) && stands_in homes.second (21 + to)) (not (to == 2) && stands_in homes.result (21 + to)) none
+    parts : ((not (to == 0) && stands_in homes.first (21 + to)) ≡ false) × ((not (to == 1) && stands_in homes.second (21 + to)) ≡ false) × ((not (to == 2) && stands_in homes.result (21 + to)) ≡ false) × ((not (to == 3) && stands_in homes.place (21 + to)) ≡ false)
+    parts = four (not (to == 0) && stands_in homes.first (21 + to)) (not (to == 1) && stands_in homes.second (21 + to)) (not (to == 2) && stands_in homes.result (21 + to)) (not (to == 3) && stands_in homes.place (21 + to)) none
 
     differs : (k : ℕ) → (temp == k) ≡ true → (to == k) ≡ false
     differs k e = let is = eqb-true temp k e in flip k (subst (λ n. (n == to) ≡ false) is other)
@@ -286,11 +300,13 @@ not_shared homes to none temp r other e = by (temp == 0) refl (temp == 1) refl (
     only false o f e is = subst (λ o. stands_in o (21 + to) ≡ false) is e
     only true o f e is = absurd (cc f)
 
-    by : (a : Bool) → (temp == 0) ≡ a → (b : Bool) → (temp == 1) ≡ b → (c : Bool) → (temp == 2) ≡ c → (if a then homes.first else if b then homes.second else if c then homes.result else None) ≡ Some r → (r == (21 + to)) ≡ false
-    by true e b f c g is = only (to == 0) homes.first (differs 0 e) parts.0 is
-    by false e true f c g is = only (to == 1) homes.second (differs 1 f) parts.1 is
-    by false e false f true g is = only (to == 2) homes.result (differs 2 g) parts.2 is
-    by false e false f false g is = absurd (cc is)
+    by : (a : Bool) → (temp == 0) ≡ a → (b : Bool) → (temp == 1) ≡ b → (c : Bool) → (temp == 2) ≡ c → (k : Bool) → (temp == 3) ≡ k
+        → (if a then homes.first else if b then homes.second else if c then homes.result else if k then homes.place else None) ≡ Some r → (r == (21 + to)) ≡ false
+    by true e b f c g k h is = only (to == 0) homes.first (differs 0 e) parts.0 is
+    by false e true f c g k h is = only (to == 1) homes.second (differs 1 f) parts.1 is
+    by false e false f true g k h is = only (to == 2) homes.result (differs 2 g) parts.2 is
+    by false e false f false g true h is = only (to == 3) homes.place (differs 3 h) parts.3 is
+    by false e false f false g false h is = absurd (cc is)
 
 scratch_apart : (homes : Homes) → AreHomes homes → (temp r : ℕ) → home_of homes temp ≡ Some r → (r == 27) ≡ false
 scratch_apart homes are temp r e = let lt = (home_is homes are temp r e).0 in grind (arith, nat_tests)
@@ -408,8 +424,8 @@ module _ (p : Placement) (site : Site) (known : Known) (homes : Homes) (standing
   -- a copy
   copies : (to : ℕ) (op : MicroOp) (size : Size) (a b : Arg) (r : ℕ) → IsArgument a → argument_fits known a ≡ true → copied homes to op size a ≡ Some r → After to op size a b regs
   copies to op size a b r is ok e =
-      let x = picked ℕ (nat_lt to 3 && is_copying op size) (extended_register homes a) r e in
-      let y = and_parts (nat_lt to 3) (is_copying op size) x.0 in
+      let x = picked ℕ (nat_lt to 4 && is_copying op size) (extended_register homes a) r e in
+      let y = and_parts (nat_lt to 4) (is_copying op size) x.0 in
       let c = copying op size y.1 in
       let v = extended_is a r is ok x.1 in
       let low_value : computed op size (value a) (value b) (standing.temps to) ≡ regs r % 2 ^ 32 =
@@ -424,40 +440,52 @@ module _ (p : Placement) (site : Site) (known : Known) (homes : Homes) (standing
 
   -- one word
   makes : (to : ℕ) (op : MicroOp) (size : Size) (a b : Arg) (word : AlphaInstr) → IsArgument a → argument_fits known a ≡ true → IsArgument b → argument_fits known b ≡ true
-      → copied homes to op size a ≡ None → made homes to op size a b ≡ Some word → (to ≡ 2) × (made_size op size ≡ Long) × Joined homes (long_operation op) a b 23 word → is_shared homes to ≡ false → After to op size a b (effect word regs)
+      → copied homes to op size a ≡ None → made homes to op size a b ≡ Some word → (nat_lt to 4 ≡ true) × (made_size op size ≡ Long) × Joined homes (made_operation to op) a b (21 + to) word → is_shared homes to ≡ false → After to op size a b (effect word regs)
   makes to op size a b word is ok is' ok' none e m alone =
       let j = m.2 in
-      subst (λ (w : AlphaInstr). After to op size a b (effect w regs)) (sym j.is) (by j.operation j.first j.second m.0 m.1 j.is_operation j.is_first j.is_second)
+      subst (λ (w : AlphaInstr). After to op size a b (effect w regs)) (sym j.is) (by j.operation j.first j.second m.1 (made_long to op j.operation j.is_operation) j.is_first j.is_second)
     where
-      two_apart : (temp : ℕ) → (temp == 2) ≡ false → ((21 + temp) == 23) ≡ false
-      two_apart temp e = grind (arith, nat_tests, e)
+      low : to < 4
+      low = ltb-true to 4 m.0
 
-      kept_two : (n : ℕ) → is_kept n ≡ true → (n == 23) ≡ false
-      kept_two n e = grind (arith, nat_tests, e)
+      own_apart : (temp : ℕ) → (temp == to) ≡ false → ((21 + temp) == (21 + to)) ≡ false
+      own_apart temp e = grind (arith, nat_tests, e)
 
-      by : (o : OperateOp) (x : ℕ) (s : Second) → to ≡ 2 → made_size op size ≡ Long → long_operation op ≡ Some o → extended_first homes a ≡ Some x → extended_second homes b ≡ Some s
-          → After to op size a b (put regs 23 (result_of o (regs x) (second_value s regs) (regs 23)))
-      by o x s two longword is_o is_x is_s =
-          let y = result_of o (regs x) (second_value s regs) (regs 23) in
+      kept_own : (n : ℕ) → to < 4 → is_kept n ≡ true → (n == (21 + to)) ≡ false
+      kept_own n lt e = grind (arith, nat_tests, e)
+
+      not_zero : to < 4 → (31 == (21 + to)) ≡ false
+      not_zero lt = grind (arith, nat_tests)
+
+      not_last : to < 4 → ((21 + to) == 31) ≡ false
+      not_last lt = grind (arith, nat_tests)
+
+      by : (o : OperateOp) (x : ℕ) (s : Second) → made_size op size ≡ Long → long_operation op ≡ Some o → extended_first homes a ≡ Some x → extended_second homes b ≡ Some s
+          → After to op size a b (put regs (21 + to) (result_of o (regs x) (second_value s regs) (regs (21 + to))))
+      by o x s longword is_o is_x is_s =
+          let y = result_of o (regs x) (second_value s regs) (regs (21 + to)) in
           let v = first_is a x is ok is_x in
           let w = second_is b s is' ok' is_s in
-          let g = gives op o (regs x) (second_value s regs) (regs 23) (standing.temps to) is_o v.1 w.1 in
-          let result : computed op size (value a) (value b) (standing.temps to) ≡ result_of o (regs x) (second_value s regs) (regs 23) % 2 ^ 32 =
+          let g = gives op o (regs x) (second_value s regs) (regs (21 + to)) (standing.temps to) is_o v.1 w.1 in
+          let there : put regs (21 + to) (result_of o (regs x) (second_value s regs) (regs (21 + to))) (21 + to) ≡ result_of o (regs x) (second_value s regs) (regs (21 + to)) =
+          put_same regs (21 + to) (result_of o (regs x) (second_value s regs) (regs (21 + to))) (not_last low) in
+          let result : computed op size (value a) (value b) (standing.temps to) ≡ result_of o (regs x) (second_value s regs) (regs (21 + to)) % 2 ^ 32 =
           same_made op size (value a) (value b) (standing.temps to) longword (first_below a x is ok is_x) (second_below b s is' ok' is_s)
           ∙ (ap (λ n. value_from op Long n (value b % 2 ^ 32) (standing.temps to)) v.0
           ∙ (ap (λ n. value_from op Long (regs x % 2 ^ 32) n (standing.temps to)) w.0 ∙ sym g.value)) in
-          let home : home_by (copied homes to op size a) (made homes to op size a b) (is_short_constant to op size a) to ≡ Some 23 =
+          let home : home_by (copied homes to op size a) (made homes to op size a b) (is_short_constant to op size a) to ≡ Some (21 + to) =
           ap (λ o. home_by o (made homes to op size a b) (is_short_constant to op size a) to) none
-          ∙ (ap (λ o. home_by None o (is_short_constant to op size a) to) e ∙ ap (λ n. Some (21 + n)) two) in
-          subst (λ o. Direct p site (behind_write to (holding_of (leaves_longword (Compute to op size a b))) known) (with_home to o homes) (with_value to (computed op size (value a) (value b) (standing.temps to)) standing) (put regs 23 y))
+          ∙ ap (λ o. home_by None o (is_short_constant to op size a) to) e in
+          subst (λ o. Direct p site (behind_write to (holding_of (leaves_longword (Compute to op size a b))) known) (with_home to o homes) (with_value to (computed op size (value a) (value b) (standing.temps to)) standing) (put regs (21 + to) y))
           (sym home)
-          (written p site known homes (Some 23) (holding_of (leaves_longword (Compute to op size a b))) to (computed op size (value a) (value b) (standing.temps to)) standing regs (put regs 23 y)
-          (λ n kept. put_other regs 23 y n (kept_two n kept)) (put_other regs 23 y 31 refl)
-          (λ temp lt other. put_other regs 23 y (21 + temp) (two_apart temp (subst (λ n. (temp == n) ≡ false) two other)))
-          (λ none lt. let some = home_self to (Some 23) homes (ap (λ n. nat_lt n 3) two) in absurd (cc (sym none ∙ some)))
-          (lit< tt, λ not_so. lit≤ tt)
-          (λ q same. subst (λ n. (computed op size (value a) (value b) (standing.temps to) ≡ put regs 23 y n % 2 ^ 32) × IsExtended (put regs 23 y n)) (same_Some 23 q same) (result, g.extended))
-          (λ temp q other home. put_other regs 23 y q (subst (λ n. (q == (21 + n)) ≡ false) two (not_shared homes to alone temp q other home))) d)
+          (written p site known homes (Some (21 + to)) (holding_of (leaves_longword (Compute to op size a b))) to (computed op size (value a) (value b) (standing.temps to)) standing regs (put regs (21 + to) y)
+          (λ n kept. put_other regs (21 + to) y n (kept_own n low kept)) (put_other regs (21 + to) y 31 (not_zero low))
+          (λ temp lt other. put_other regs (21 + to) y (21 + temp) (own_apart temp other))
+          (λ free lt. let some = home_self to (Some (21 + to)) homes m.0 in absurd (cc (sym free ∙ some)))
+          (omega (arith, low), λ not_so. omega arith)
+          (λ q same. subst (λ n. (computed op size (value a) (value b) (standing.temps to) ≡ put regs (21 + to) y n % 2 ^ 32) × IsExtended (put regs (21 + to) y n)) (same_Some (21 + to) q same)
+          (result ∙ ap (λ n. n % 2 ^ 32) (sym there), subst IsExtended (sym there) g.extended))
+          (λ temp q other home. put_other regs (21 + to) y q (not_shared homes to alone temp q other home)) d)
 
   -- a constant
   loads : (to : ℕ) (op : MicroOp) (size : Size) (a b : Arg) (word : AlphaInstr) → copied homes to op size a ≡ None → made homes to op size a b ≡ Some word → Literally to op size a word → is_shared homes to ≡ false → After to op size a b (effect word regs)
@@ -468,7 +496,7 @@ module _ (p : Placement) (site : Site) (known : Known) (homes : Homes) (standing
       (written p site known homes (Some (21 + to)) (holding_of (leaves_longword (Compute to op size a b))) to (computed op size (value a) (value b) (standing.temps to)) standing regs (put regs (21 + to) (bit_or (regs 31) c.value))
       (λ n kept. put_other regs (21 + to) (bit_or (regs 31) c.value) n (own_kept n few kept)) (put_other regs (21 + to) (bit_or (regs 31) c.value) 31 (zero_apart_to few))
       (λ temp lt other. put_other regs (21 + to) (bit_or (regs 31) c.value) (21 + temp) (apart temp other))
-      (λ free lt. let some = home_self to (Some (21 + to)) homes c.few in absurd (cc (sym free ∙ some)))
+      (λ free lt. let some = home_self to (Some (21 + to)) homes (few_low to c.few) in absurd (cc (sym free ∙ some)))
       (omega (arith, few), λ not_so. omega arith)
       (λ q same. subst (λ n. (computed op size (value a) (value b) (standing.temps to) ≡ put regs (21 + to) (bit_or (regs 31) c.value) n % 2 ^ 32) × IsExtended (put regs (21 + to) (bit_or (regs 31) c.value) n)) (same_Some (21 + to) q same)
       (is_value ∙ (sym low ∙ ap (λ n. n % 2 ^ 32) (sym there)), subst IsExtended (sym there) (extended_small c.value (let lt = c.small in omega arith))))
@@ -696,10 +724,10 @@ module _ (p : Placement) (site : Site) (known : Known) (homes : Homes) (standing
       let y = all_three (is_sized homes to op size a b) (not (is_select op)) (not (is_shared homes to)) direct in
       by (made_word homes to op size a b word e) (not-true (is_shared homes to) y.2) x.1 x.2
     where
-      by : Literally to op size a word ⊎ ((to ≡ 2) × (made_size op size ≡ Long) × Joined homes (long_operation op) a b 23 word) → is_shared homes to ≡ false → argument_fits known a ≡ true → (is_unary op || argument_fits known b) ≡ true → After to op size a b (effect word regs)
+      by : Literally to op size a word ⊎ ((nat_lt to 4 ≡ true) × (made_size op size ≡ Long) × Joined homes (made_operation to op) a b (21 + to) word) → is_shared homes to ≡ false → argument_fits known a ≡ true → (is_unary op || argument_fits known b) ≡ true → After to op size a b (effect word regs)
       by (inl c) alone a_fits b_fits = loads to op size a b word none e c alone
       by (inr m) alone a_fits b_fits =
-          let two = binary op m.2.operation m.2.is_operation in
+          let two = binary op m.2.operation (made_long to op m.2.operation m.2.is_operation) in
           makes to op size a b word a_is a_fits (b_is two) (right (is_unary op) (argument_fits known b) two b_fits) none e m alone
 
   pub compares_then : (to : ℕ) (op : MicroOp) (size : Size) (a b : Arg) (word : AlphaInstr) → computation_fits known to op a b ≡ true → IsTarget (holder to) → IsArgument a → (is_unary op ≡ false → IsArgument b) → is_direct homes to op size a b ≡ true

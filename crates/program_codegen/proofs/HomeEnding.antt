@@ -1,6 +1,6 @@
 -- The end of a program whose operands are used where they stand: the codes, the register that is written, and what comes behind.
 use Rattle.std.proofs.Common.{◌≡◌, ℕ, ◌+◌, ◌/◌, ◌%◌, ◌^◌, ◌<◌, ◌≤◌, refl, sym, ap, ◌∙◌, subst, arith, eqb-true, List, [], ◌∷◌, ◌++◌, length, map, Option, Some, None, Bool, true, false, lit<, lit≤, length-append}
-use Rattle.std.specs.Prelude.{◌==◌, ◌&&◌, nat_lt, not, is_none, option_and_then, slice_set, unwrap_or, if◌then◌else◌}
+use Rattle.std.specs.Prelude.{◌==◌, ◌&&◌, ◌||◌, nat_lt, not, is_none, option_and_then, slice_set, unwrap_or, if◌then◌else◌}
 use Rattle.std.specs.List.{list_all}
 use Rattle.std.proofs.lemmas.Bool.Decides.{nat_tests}
 use Rattle.std.proofs.lemmas.Bool.{and_parts, ltb-true}
@@ -23,12 +23,14 @@ use Rattle.exception_records.specs.Codes.{codes_by, comparison_codes, difference
 use Rattle.exception_records.specs.Shown.{codes_shown, registers_shown, still_held}
 use Rattle.exception_records.specs.declared.rules.CodeRule.{CodeRule}
 use Rattle.exception_records.specs.declared.rules.CodeRule.TheVariants as rules
+use Rattle.micro_ops.specs.declared.codes.CodeSource.{CodeSource}
+use Rattle.micro_ops.specs.declared.codes.CodeSource.TheVariants as code_sources
 use Rattle.micro_ops.specs.declared.known.Holding.{Holding}
 use Rattle.micro_ops.specs.declared.known.Holding.TheVariants.{Nothing}
 use Rattle.micro_ops.specs.declared.known.Known.{Known}
 use Rattle.micro_ops.specs.declared.program.Exit.{Exit}
 use Rattle.micro_ops.specs.declared.program.Exit.TheVariants as exits
-use Rattle.micro_ops.specs.Fits.{exit_fits, exit_holds, is_from_psw, is_from_values, same, sources_fit}
+use Rattle.micro_ops.specs.Fits.{carry_is_held, exit_fits, exit_holds, is_from_psw, is_from_values, same, signs_are_held, sources_fit}
 use Rattle.micro_ops.specs.Known.{held, holds, is_something}
 use Rattle.micro_ops.specs.Leaving.{CodesComeFrom, SignsComeFrom, state_left}
 use Rattle.micro_ops.specs.Meaning.{Departure, Ended, Standing, departed, leaves_by, traps}
@@ -44,7 +46,7 @@ use Rattle.program_codegen.specs.declared.direct.Raised.{Raised}
 use Rattle.block_law.specs.Tidy.{is_kept}
 use Rattle.program_codegen.specs.declared.homes.Homes.{Homes}
 use Rattle.program_codegen.specs.declared.points.Site.{Site}
-use Rattle.program_codegen.specs.Homes.{IsHome, are_short_rules, commit_stays, is_left_alone, commit_words, end_lines, exit_stays, home_at, home_of, is_operand, is_short_rule, may_end, moved_words, none_raised, raised_at, end_words, waiting_words, goes_by, is_left, rewrites, stands_in, with_waiting}
+use Rattle.program_codegen.specs.Homes.{AreLasting, IsLasting, are_left, are_short_rules, is_made_there, commit_stays, is_left_alone, commit_words, end_lines, exit_stays, home_at, home_of, is_operand, is_short_rule, may_end, moved_words, none_raised, raised_at, end_words, waiting_words, goes_by, is_left, rewrites, stands_in, with_waiting}
 use Rattle.program_codegen.specs.Programs.{IsExit}
 use Rattle.program_codegen.specs.Words.{departing, plain, trap_lines}
 use Rattle.program_codegen.proofs.Coded.{Coded, carry_by, coded_by, fine_operates, registers_same, signs_by, sources_parts}
@@ -53,7 +55,7 @@ use Rattle.program_codegen.proofs.Computing.{codes_kept, held_still, held_value}
 use Rattle.program_codegen.proofs.Departures.{departs_some, same_psw}
 use Rattle.program_codegen.proofs.Exiting.{chooses, exits_to, kept_apart}
 use Rattle.program_codegen.proofs.HomeCodes.{Moved, held_unread, home_stays, moved_effects}
-use Rattle.program_codegen.proofs.HomeHolding.{Direct, held_own, hidden, home_is}
+use Rattle.program_codegen.proofs.HomeHolding.{Direct, LeftAlone, held_own, hidden, hide, lasting_is, left_alone_is}
 use Rattle.program_codegen.proofs.HomeNumbers.{IsExtended}
 use Rattle.program_codegen.proofs.HomeShapes.{moved_fine}
 use Rattle.program_codegen.proofs.HomeSparing.{Extends, end_operates, flipped, not_false, put_zero, waiting_same}
@@ -89,6 +91,36 @@ value_in (Some home) regs register = regs home % 2 ^ 32
 abbrev pub own_file : Homes → Regs → Regs
 own_file homes regs = λ n. if n == 21 then value_in homes.first regs n else if n == 22 then value_in homes.second regs n else if n == 23 then value_in homes.result regs n else regs n
 
+-- ---- temporary 3
+-- what is known where it isn't, if it has a home
+abbrev third_hidden : Homes → Known → Known
+third_hidden homes known = record known { temp3 = hide homes.place known.temp3 }
+
+-- what the codes come from is still held
+signs_left : (homes : Homes) (known : Known) (source : CodeSource) → (is_none homes.place || not (is_made_there source)) ≡ true → signs_are_held known source ≡ true → signs_are_held (third_hidden homes known) source ≡ true
+signs_left homes known code_sources.Kept third e = e
+signs_left homes known code_sources.Zero third e = e
+signs_left homes known (code_sources.Result size) third e = e
+signs_left homes known (code_sources.Add size) third e = e
+signs_left homes known (code_sources.Sub size) third e = e
+signs_left homes known (code_sources.Compare size) third e = e
+signs_left homes known (code_sources.Computed size) third e = by homes.place third
+  where
+    by : (o : Option ℕ) → (is_none o || false) ≡ true → (holds known 2 && is_something (hide o known.temp3)) ≡ true
+    by None third = e
+    by (Some r) third = absurd (cc third)
+signs_left homes known code_sources.Psw third e = e
+
+carry_left : (homes : Homes) (known : Known) (source : CodeSource) → carry_is_held known source ≡ true → carry_is_held (third_hidden homes known) source ≡ true
+carry_left homes known code_sources.Kept e = e
+carry_left homes known code_sources.Zero e = e
+carry_left homes known (code_sources.Result size) e = e
+carry_left homes known (code_sources.Add size) e = e
+carry_left homes known (code_sources.Sub size) e = e
+carry_left homes known (code_sources.Compare size) e = e
+carry_left homes known (code_sources.Computed size) e = e
+carry_left homes known code_sources.Psw e = e
+
 module _ (p : Placement) (site : Site) (known : Known) (homes : Homes) (standing : Standing) (regs : Regs) (d : Direct p site known homes standing regs) where
   there : (n r : ℕ) → home_at homes n ≡ Some r → (own_file homes regs n ≡ regs r % 2 ^ 32) × IsExtended (regs r)
   there n r e = by (n == 21) refl (n == 22) refl (n == 23) refl e
@@ -121,7 +153,7 @@ module _ (p : Placement) (site : Site) (known : Known) (homes : Homes) (standing
     lifted = λ n r e. nothing n r (n == 24) (n == 25) e;
   }
     where
-      nothing : (n r : ℕ) (a b : Bool) → (if a then None else if b then None else None) ≡ Some r → (own_file homes regs n ≡ left (regs r) 32) × IsExtended (regs r) × IsHome (Some r)
+      nothing : (n r : ℕ) (a b : Bool) → (if a then None else if b then None else None) ≡ Some r → (own_file homes regs n ≡ left (regs r) 32) × IsExtended (regs r) × IsLasting (Some r)
       nothing n r true b e = absurd (cc e)
       nothing n r false true e = absurd (cc e)
       nothing n r false false e = absurd (cc e)
@@ -133,14 +165,18 @@ module _ (p : Placement) (site : Site) (known : Known) (homes : Homes) (standing
           let c : (n == 23) ≡ false = grind (arith, nat_tests, is) in
           rw (a, b, c) refl
 
-  -- a temporary that holds something has its value there
-  in_own : (temp : ℕ) → temp < 6 → holds known temp ≡ true → own_file homes regs (21 + temp) ≡ standing.temps temp
+  -- a temporary that holds something has its value there, but for temporary 3 where that has a home
+  in_own : (temp : ℕ) → temp < 6 → holds (third_hidden homes known) temp ≡ true → own_file homes regs (21 + temp) ≡ standing.temps temp
   in_own temp lt some =
-      by_six (λ n. (o : Option ℕ) → home_of homes n ≡ o → holds known n ≡ true → own_file homes regs (21 + n) ≡ standing.temps n)
-      (low 0 refl (lit< tt)) (low 1 refl (lit< tt)) (low 2 refl (lit< tt)) (high 3 refl refl (lit< tt)) (high 4 refl refl (lit< tt)) (high 5 refl refl (lit< tt)) temp lt (home_of homes temp) refl some
+      by_six (λ n. (o : Option ℕ) → home_of homes n ≡ o → holds (third_hidden homes known) n ≡ true → own_file homes regs (21 + n) ≡ standing.temps n)
+      (low 0 refl (lit< tt)) (low 1 refl (lit< tt)) (low 2 refl (lit< tt)) third (high 4 refl refl (lit< tt)) (high 5 refl refl (lit< tt)) temp lt (home_of homes temp) refl some
     where
       own : (n : ℕ) → n < 6 → home_of homes n ≡ None → holds known n ≡ true → regs (21 + n) ≡ standing.temps n
       own n lt none some = (held_value (held (hidden homes known) n) (standing.temps n) (regs (21 + n)) (ap is_something (held_own homes known n none) ∙ some) (d.holds.temps n lt)).0
+
+      third : (o : Option ℕ) → homes.place ≡ o → is_something (hide homes.place known.temp3) ≡ true → regs 24 ≡ standing.temps 3
+      third None e some = own 3 (lit< tt) e (sym (ap (λ o. is_something (hide o known.temp3)) e) ∙ some)
+      third (Some r) e some = absurd (cc (sym some ∙ ap (λ o. is_something (hide o known.temp3)) e))
 
       high : (n : ℕ) → home_of homes n ≡ None → own_file homes regs (21 + n) ≡ regs (21 + n) → n < 6 → (o : Option ℕ) → home_of homes n ≡ o → holds known n ≡ true → own_file homes regs (21 + n) ≡ standing.temps n
       high n none same lt o e some = same ∙ own n lt none some
@@ -162,22 +198,24 @@ module _ (p : Placement) (site : Site) (codes : List AlphaInstr) (setting : Sett
       let rule_c = rule_same site.behind.c (placed 15) (placed 30) (own 15) (own 30) x.3 (sym (m.loose 15 refl)) (sym (m.loose 30 refl)) in
       rw (rule_n, rule_z, rule_v, rule_c, sym (m.same 16 refl refl refl), sym (m.same 17 refl refl refl), sym (m.same 18 refl refl refl), sym (m.same 19 refl refl refl)) e
 
-  pub leaves_codes : (words : List AlphaInstr) (departure : Departure) → moved_words homes codes ≡ Some words → sources_fit site.sources known ≡ true → are_short_rules site.behind ≡ true → (state_left departure).psw ≡ standing.state.psw
+  pub leaves_codes : (words : List AlphaInstr) (departure : Departure) → LeftAlone site.sources homes → moved_words homes codes ≡ Some words → sources_fit site.sources known ≡ true → are_short_rules site.behind ≡ true → (state_left departure).psw ≡ standing.state.psw
       → CodesComeFrom site.sources p.begun (record { departure = departure; temps = standing.temps }) → Coded p site (hidden homes known) standing (effects words regs)
-  leaves_codes words departure moved fits short left come =
+  leaves_codes words departure alone moved fits short left come =
       let h = d.holds in
       let parts = sources_parts site.sources known fits in
       let own = own_file homes regs in
-      let values : (temp : ℕ) → temp < 6 → holds known temp ≡ true → temps_in own temp ≡ standing.temps temp = λ temp lt some. in_own p site known homes standing regs d temp lt some in
+      let values : (temp : ℕ) → temp < 6 → holds (third_hidden homes known) temp ≡ true → temps_in own temp ≡ standing.temps temp = λ temp lt some. in_own p site known homes standing regs d temp lt some in
+      let signs = signs_left homes known site.sources.nzv alone.third parts.2 in
+      let carry = carry_left homes known site.sources.c parts.3 in
       let shows = setting.leaves.leaves own p.held p.begun departure
       (record { zero = h.form.zero; hold = λ n from to. subst (λ v. v < 2) (sym (own_same p site known homes standing regs d n (no_home n from to))) (h.form.codes n from to); codes = h.codes })
       (record {
-        signs = signs_by site.sources.nzv p.begun.psw (state_left departure).psw standing.temps (temps_in own) known values parts.2 come.signs;
-        carry = carry_by site.sources.c p.begun.psw (state_left departure).psw standing.temps (temps_in own) known values parts.3 come.carry;
+        signs = signs_by site.sources.nzv p.begun.psw (state_left departure).psw standing.temps (temps_in own) (third_hidden homes known) values signs come.signs;
+        carry = carry_by site.sources.c p.begun.psw (state_left departure).psw standing.temps (temps_in own) (third_hidden homes known) values carry come.carry;
       }) in
-      let behind = moved_effects site.sources homes d.are codes words none_raised own regs setting.leaves.only moved (starts p site known homes standing regs d) in
+      let behind = moved_effects site.sources homes alone.lasting codes words none_raised own regs setting.leaves.only moved (starts p site known homes standing regs d) in
       let m = behind.1 in
-      coded_by p site codes setting words (hidden homes known) standing regs (state_left departure) (moved_fine homes d.are (may_be_written site.sources) codes words moved setting.leaves.only) parts.0 parts.1 left
+      coded_by p site codes setting words (hidden homes known) standing regs (state_left departure) (moved_fine homes alone.lasting (may_be_written site.sources) codes words moved setting.leaves.only) parts.0 parts.1 left
       (record {
         zero = sym (m.same 31 refl refl refl) ∙ shows.zero;
         hold = λ n from to. subst (λ v. v < 2) (m.same n (no_operand n from to) (no_home n from to) (no_raised behind.0 n from to)) (shows.hold n from to);
@@ -239,10 +277,10 @@ coded_commit p site known standing regs number value lt c = record {
     same_before = rw (out 15 (lit≤ tt), out 16 (lit≤ tt), out 17 (lit≤ tt), out 18 (lit≤ tt), out 19 (lit≤ tt), out 28 (lit≤ tt), out 29 (lit≤ tt), out 30 (lit≤ tt)) refl
 
 module _ (p : Placement) (site : Site) (codes : List AlphaInstr) (setting : Setting p site codes) (known : Known) (homes : Homes) (standing : Standing) (regs : Regs) (d : Direct p site known homes standing regs) where
-  committed_coded : (words : List AlphaInstr) (commit : Option (ℕ × ℕ)) → list_all (fine (may_be_written site.sources)) words ≡ true → commit_stays commit ≡ true → CommitFits known commit
+  committed_coded : (words : List AlphaInstr) (commit : Option (ℕ × ℕ)) → AreLasting homes → list_all (fine (may_be_written site.sources)) words ≡ true → commit_stays commit ≡ true → CommitFits known commit
       → Coded p site (hidden homes known) standing (effects words regs) → Coded p site (hidden homes known) (committed commit standing) (effects (commit_words homes commit) (effects words regs))
-  committed_coded words None only stays is c = c
-  committed_coded words (Some commit) only stays is c =
+  committed_coded words None lasting only stays is c = c
+  committed_coded words (Some commit) lasting only stays is c =
       subst (λ value. Coded p site (hidden homes known) (committed (Some commit) standing) (put (effects words regs) commit.0 value))
       (sym (committed_is (effects words regs (place (home_of homes commit.1))) ∙ same_extended (effects words regs (place (home_of homes commit.1))) (standing.temps commit.1) (is_low (home_of homes commit.1) refl)))
       (coded_commit p site (hidden homes known) standing (effects words regs) commit.0 (standing.temps commit.1) is.0 c)
@@ -262,7 +300,7 @@ module _ (p : Placement) (site : Site) (codes : List AlphaInstr) (setting : Sett
           ap (λ n. n % 2 ^ 32) (held_value (held (hidden homes known) commit.1) (standing.temps commit.1) (effects words regs (21 + commit.1)) (ap is_something (held_own homes known commit.1 none) ∙ is.1) (c.temps commit.1 (low commit.1 stays) other.0 other.1)).0
       is_low (Some r) e =
           let v = d.values commit.1 r e in
-          let stay = effects_only words (may_be_written site.sources) regs regs only (λ n out. refl) r (home_stays site.sources r (home_is homes d.are commit.1 r e)) in
+          let stay = effects_only words (may_be_written site.sources) regs regs only (λ n out. refl) r (home_stays site.sources r (lasting_is homes lasting commit.1 r stays e)) in
           ap (λ n. n % 2 ^ 32) stay ∙ (twice (regs r) ∙ ap (λ n. n % 2 ^ 32) (sym v.0))
         where
           twice : (n : ℕ) → n % 2 ^ 32 ≡ n % 2 ^ 32 % 2 ^ 32
@@ -488,15 +526,15 @@ module _ (p : Placement) (site : Site) (codes : List AlphaInstr) (setting : Sett
   }
 
   -- ---- the whole end
-  ends_by : (exit : Exit) (onward : Departure) (commit : Option (ℕ × ℕ)) (words : List AlphaInstr) (pc : ℕ) → Waits homes → moved_words homes codes ≡ Some words
+  ends_by : (exit : Exit) (onward : Departure) (commit : Option (ℕ × ℕ)) (words : List AlphaInstr) (pc : ℕ) → Waits homes → LeftAlone site.sources homes → moved_words homes codes ≡ Some words
       → Within p site.behind pc (end_lines site homes commit exit words) → commit_stays commit ≡ true → exit_stays homes exit ≡ true → are_short_rules site.behind ≡ true → CommitFits known commit
       → IsExit exit → exit_fits known exit ≡ true → sources_fit site.sources known ≡ true
       → CodesComeFrom site.sources p.begun (record { departure = trap_or site (committed commit standing) exit onward; temps = (committed commit standing).temps }) → (state_left onward).psw ≡ (committed commit standing).state.psw
       → ((now : Known) (g : Regs) (pc' : ℕ) → Coded p site now (committed commit standing) g → ExitHolds now exit → Within p site.behind pc' (departing site exit) → Always p None (length (departing site exit)) (at_place g pc') (departed p.serve onward))
       → Always p None (length (end_lines site homes commit exit words)) (at_place regs pc) (departed p.serve (trap_or site (committed commit standing) exit onward))
-  ends_by exit onward commit words pc waits moved w stays exit_ok short fits is ok sources come left behind =
+  ends_by exit onward commit words pc waits alone moved w stays exit_ok short fits is ok sources come left behind =
       let some = departs_some p site codes setting exit in
-      let only = moved_fine homes d.are (may_be_written site.sources) codes words moved setting.leaves.only in
+      let only = moved_fine homes alone.lasting (may_be_written site.sources) codes words moved setting.leaves.only in
       let rest = trap_lines site exit ++ departing site exit in
       let row = end_words homes commit exit words in
       let first = row_length p site.behind (end_words homes commit exit words) rest in
@@ -504,9 +542,9 @@ module _ (p : Placement) (site : Site) (codes : List AlphaInstr) (setting : Sett
       let whole = same_psw (committed commit standing) _ onward (traps (committed commit standing)) left in
       let high = w.high in
       let t = departed p.serve (trap_or site (committed commit standing) exit onward) in
-      let c = leaves_codes p site codes setting known homes standing direct_regs d words (trap_or site (committed commit standing) exit onward) moved sources short (whole ∙ same_psw_left p site codes setting known homes standing direct_regs d commit)
+      let c = leaves_codes p site codes setting known homes standing direct_regs d words (trap_or site (committed commit standing) exit onward) alone moved sources short (whole ∙ same_psw_left p site codes setting known homes standing direct_regs d commit)
       (subst (λ temps. CodesComeFrom site.sources p.begun (record { departure = trap_or site (committed commit standing) exit onward; temps = temps })) (same_temps p site codes setting known homes standing direct_regs d commit) come) in
-      let e = end_coded commit exit words is (exit_known p site codes setting known homes standing direct_regs d exit exit_ok ok) (committed_coded p site codes setting known homes standing direct_regs d words commit only stays fits c) in
+      let e = end_coded commit exit words is (exit_known p site codes setting known homes standing direct_regs d exit exit_ok ok) (committed_coded p site codes setting known homes standing direct_regs d words commit alone.lasting only stays fits c) in
       let w1 = row_rest p site.behind pc (end_words homes commit exit words) rest w in
       let signs = subst (λ temps. SignsComeFrom site.sources.nzv p.begun.psw (state_left (trap_or site (committed commit standing) exit onward)).psw temps) (same_temps p site codes setting known homes standing direct_regs d commit) come.signs in
       let o = overflows p site codes setting known homes standing direct_regs d commit _ sources whole signs in
@@ -532,17 +570,17 @@ module _ (p : Placement) (site : Site) (codes : List AlphaInstr) (setting : Sett
       → AtLeaves (CodesComeFrom site.sources p.begun) (leaves_by exit (found p site) (committed commit standing))
       → Always p None (length (end_lines site homes commit exit words)) (at_place regs pc) (tree (ends p) (leaves_by exit (found p site) (committed commit standing)))
   end_follows exits.Next commit words pc waits moved w may fits is ok sources agree =
-      let x = all_three (commit_stays commit) (exit_stays homes exits.Next) (are_short_rules site.behind) may in
-      ends_by exits.Next (Ended (Finish (with_pc site.after (committed commit standing).state))) commit words pc waits moved w x.0 x.1 x.2 fits is ok sources agree refl
+      let x = all_four (are_left site.sources homes) (commit_stays commit) (exit_stays homes exits.Next) (are_short_rules site.behind) may in
+      ends_by exits.Next (Ended (Finish (with_pc site.after (committed commit standing).state))) commit words pc waits (left_alone_is site.sources homes d.are x.0) moved w x.1 x.2 x.3 fits is ok sources agree refl
       (λ now g pc' c holds w'. exits_to p site now (committed commit standing) g c pc' site.after [] w')
   end_follows (exits.Fixed address) commit words pc waits moved w may fits is ok sources agree =
-      let x = all_three (commit_stays commit) (exit_stays homes (exits.Fixed address)) (are_short_rules site.behind) may in
-      ends_by (exits.Fixed address) (Ended (Finish (with_pc address (committed commit standing).state))) commit words pc waits moved w x.0 x.1 x.2 fits is ok sources agree refl
+      let x = all_four (are_left site.sources homes) (commit_stays commit) (exit_stays homes (exits.Fixed address)) (are_short_rules site.behind) may in
+      ends_by (exits.Fixed address) (Ended (Finish (with_pc address (committed commit standing).state))) commit words pc waits (left_alone_is site.sources homes d.are x.0) moved w x.1 x.2 x.3 fits is ok sources agree refl
       (λ now g pc' c holds w'. exits_to p site now (committed commit standing) g c pc' address [] w')
   end_follows (exits.Choice when taken other) commit words pc waits moved w may fits is ok sources agree =
-      let x = all_three (commit_stays commit) (exit_stays homes (exits.Choice when taken other)) (are_short_rules site.behind) may in
-      ends_by (exits.Choice when taken other) (Ended (Finish (with_pc (if (committed commit standing).temps when == 0 then other else taken) (committed commit standing).state))) commit words pc waits moved w x.0 x.1 x.2 fits is ok sources agree refl
+      let x = all_four (are_left site.sources homes) (commit_stays commit) (exit_stays homes (exits.Choice when taken other)) (are_short_rules site.behind) may in
+      ends_by (exits.Choice when taken other) (Ended (Finish (with_pc (if (committed commit standing).temps when == 0 then other else taken) (committed commit standing).state))) commit words pc waits (left_alone_is site.sources homes d.are x.0) moved w x.1 x.2 x.3 fits is ok sources agree refl
       (λ now g pc' c holds w'. chooses p site now (committed commit standing) g c pc' when taken other w' is.0 holds)
-  end_follows (exits.Computed temp) commit words pc waits moved w may fits is ok sources agree = let x = all_three (commit_stays commit) (exit_stays homes (exits.Computed temp)) (are_short_rules site.behind) may in absurd (cc x.1)
-  end_follows (exits.Service temp) commit words pc waits moved w may fits is ok sources agree = let x = all_three (commit_stays commit) (exit_stays homes (exits.Service temp)) (are_short_rules site.behind) may in absurd (cc x.1)
-  end_follows exits.Breakpoint commit words pc waits moved w may fits is ok sources agree = let x = all_three (commit_stays commit) (exit_stays homes exits.Breakpoint) (are_short_rules site.behind) may in absurd (cc x.1)
+  end_follows (exits.Computed temp) commit words pc waits moved w may fits is ok sources agree = let x = all_four (are_left site.sources homes) (commit_stays commit) (exit_stays homes (exits.Computed temp)) (are_short_rules site.behind) may in absurd (cc x.2)
+  end_follows (exits.Service temp) commit words pc waits moved w may fits is ok sources agree = let x = all_four (are_left site.sources homes) (commit_stays commit) (exit_stays homes (exits.Service temp)) (are_short_rules site.behind) may in absurd (cc x.2)
+  end_follows exits.Breakpoint commit words pc waits moved w may fits is ok sources agree = let x = all_four (are_left site.sources homes) (commit_stays commit) (exit_stays homes exits.Breakpoint) (are_short_rules site.behind) may in absurd (cc x.2)

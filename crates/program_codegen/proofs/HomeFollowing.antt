@@ -39,7 +39,7 @@ use Rattle.program_codegen.proofs.HomeReaching.{direct_checks, direct_reads, dir
 use Rattle.program_codegen.specs.declared.homes.Homes.{Homes}
 use Rattle.program_codegen.specs.declared.lines.Line.{Line}
 use Rattle.program_codegen.specs.declared.points.Site.{Site}
-use Rattle.program_codegen.specs.Homes.{are_short_rules, choice_lines, commit_stays, copied, direct_by, direct_code, direct_end, direct_lines, direct_step, end_at, end_lines, end_words, exit_behind, exit_stays, is_direct, made, may_end, moved_words, needed_words, new_home, next_exit, step_by, tested_at, tested_exit, waiting_words, with_home, is_shared, may_write, reach, reached, read_home, reading, settled, stands, compared, tested_words, all_waiting, behind_waiting}
+use Rattle.program_codegen.specs.Homes.{are_left, are_short_rules, choice_lines, commit_stays, copied, direct_by, direct_code, direct_end, direct_lines, direct_step, end_at, end_lines, end_words, exit_behind, exit_stays, is_direct, made, may_end, moved_words, needed_words, new_home, next_exit, step_by, tested_at, tested_exit, waiting_words, with_home, is_shared, may_write, reach, reached, read_home, reading, settled, stands, compared, tested_words, all_waiting, behind_waiting}
 use Rattle.program_codegen.specs.Programs.{AllHaveWords, ReadsReady}
 use Rattle.program_codegen.specs.Words.{departing, plain, trap_lines, copy, marked, probing, write_by}
 use Rattle.program_codegen.proofs.Committing.{sets_codes}
@@ -51,7 +51,7 @@ use Rattle.program_codegen.proofs.HomeSomes.{chained, first_is, mapped}
 use Rattle.program_codegen.proofs.HomeTesting.{Tested, tested, tested_follows}
 use Rattle.program_codegen.proofs.Holding.{Setting, ends, found, tree}
 use Rattle.program_codegen.proofs.Knowing.{walk_fits, write_changes}
-use Rattle.program_codegen.proofs.Numbers.{all_three}
+use Rattle.program_codegen.proofs.Numbers.{all_three, all_four}
 use Rattle.program_codegen.proofs.Walk.{Within, is_inside, row_length, row_rest, row_words, next}
 
 -- ---- a step
@@ -72,13 +72,14 @@ stepped site homes to op size a b program step out is e = by out (is_direct home
 
 -- what waits does so behind a write
 pub waits_same : (to : ℕ) (home : Option ℕ) (homes : Homes) → ((with_home to home homes).before ≡ homes.before) × ((with_home to home homes).waiting ≡ homes.waiting)
-waits_same to home homes = by (to == 0) refl (to == 1) refl (to == 2) refl
+waits_same to home homes = by (to == 0) refl (to == 1) refl (to == 2) refl (to == 3) refl
   where
-    by : (a : Bool) → (to == 0) ≡ a → (b : Bool) → (to == 1) ≡ b → (c : Bool) → (to == 2) ≡ c → ((with_home to home homes).before ≡ homes.before) × ((with_home to home homes).waiting ≡ homes.waiting)
-    by true e b f c g = (rw e refl, rw e refl)
-    by false e true f c g = (rw (e, f) refl, rw (e, f) refl)
-    by false e false f true g = (rw (e, f, g) refl, rw (e, f, g) refl)
-    by false e false f false g = (rw (e, f, g) refl, rw (e, f, g) refl)
+    by : (a : Bool) → (to == 0) ≡ a → (b : Bool) → (to == 1) ≡ b → (c : Bool) → (to == 2) ≡ c → (k : Bool) → (to == 3) ≡ k → ((with_home to home homes).before ≡ homes.before) × ((with_home to home homes).waiting ≡ homes.waiting)
+    by true e b f c g k h = (rw e refl, rw e refl)
+    by false e true f c g k h = (rw (e, f) refl, rw (e, f) refl)
+    by false e false f true g k h = (rw (e, f, g) refl, rw (e, f, g) refl)
+    by false e false f false g true h = (rw (e, f, g, h) refl, rw (e, f, g, h) refl)
+    by false e false f false g false h = (rw (e, f, g, h) refl, rw (e, f, g, h) refl)
 
 pub row_apart : (xs ys : List AlphaInstr) (rest : List Line) → map plain (xs ++ ys) ++ rest ≡ map plain xs ++ (map plain ys ++ rest)
 row_apart [] ys rest = refl
@@ -208,7 +209,8 @@ no_home to homes e =
     let a : (to == 0) ≡ false = grind (arith, nat_tests, e) in
     let b : (to == 1) ≡ false = grind (arith, nat_tests, e) in
     let c : (to == 2) ≡ false = grind (arith, nat_tests, e) in
-    rw (a, b, c) refl
+    let d : (to == 3) ≡ false = grind (arith, nat_tests, e) in
+    rw (a, b, c, d) refl
 
 module _ (p : Placement) (site : Site) (codes : List AlphaInstr) (setting : Setting p site codes) where
   abbrev Course_of : List Micro → Standing → Course Left
@@ -274,7 +276,7 @@ module _ (p : Placement) (site : Site) (codes : List AlphaInstr) (setting : Sett
       let x = walk_fits (computation_fits known to op a b) behind (λ behind. walk site.sources behind program) (opened site.sources known (Compute to op size a b) program off walked) in
       let y = out_of (is_left_out site.sources (Compute to op size a b) program) exit (exit_behind site.sources program) e in
       let high = (and_parts (not (is_low to)) (not (is_used site.sources program to)) y.0).0 in
-      let stays = (all_three (commit_stays commit) (exit_stays homes exit) (are_short_rules site.behind) may).0 in
+      let stays = (all_four (are_left site.sources homes) (commit_stays commit) (exit_stays homes exit) (are_short_rules site.behind) may).1 in
       let value = computed op size (value_of_arg (found p site) (committed commit standing).temps a) (value_of_arg (found p site) (committed commit standing).temps b) ((committed commit standing).temps to) in
       let same = value_committed commit to (computed op size (value_of_arg (found p site) (committed commit standing).temps a) (value_of_arg (found p site) (committed commit standing).temps b) ((committed commit standing).temps to)) standing stays high in
       subst (λ (s : Standing). Always p None (length (end_lines site homes commit exit words)) (at_place regs pc) (tree (ends p) (Course_of program s))) (sym same)

@@ -1,14 +1,15 @@
 -- What the registers of a block hold between two operations of a program whose operands are used where they stand.
 use Rattle.std.proofs.Common.{◌≡◌, ℕ, ◌+◌, ◌-◌, ◌%◌, ◌^◌, ◌<◌, refl, sym, ap, ◌∙◌, subst, arith, Option, Some, None, Bool, true, false, eqb-true, length-set}
-use Rattle.std.specs.Prelude.{◌==◌, ◌&&◌, nat_lt, if◌then◌else◌, is_none}
+use Rattle.std.specs.Prelude.{◌==◌, ◌&&◌, ◌||◌, nat_lt, not, if◌then◌else◌, is_none}
 use Rattle.std.proofs.lemmas.Bool.Decides.{nat_tests}
-use Rattle.std.proofs.lemmas.Bool.{eqb-false, ltb-true}
+use Rattle.std.proofs.lemmas.Bool.{and_parts, eqb-false, ltb-true}
 use Rattle.std.proofs.lemmas.Option.{same_Some}
 use Rattle.vt_words.proofs.Longwords.{extended_fits}
 use Rattle.vax_form.specs.State.{register}
 use Rattle.vax_form.specs.declared.instr.Size.{Size}
 use Rattle.alpha_meaning.specs.State.{Regs}
 use Rattle.exception_records.specs.Codes.{is_ready}
+use Rattle.micro_ops.specs.declared.codes.CodeSources.{CodeSources}
 use Rattle.micro_ops.specs.declared.known.Holding.{Holding}
 use Rattle.micro_ops.specs.declared.known.Holding.TheVariants.{Nothing}
 use Rattle.micro_ops.specs.declared.known.Known.{Known}
@@ -25,7 +26,7 @@ use Rattle.block_law.specs.Placements.{Placement}
 use Rattle.block_law.specs.Tidy.{is_kept}
 use Rattle.program_codegen.specs.declared.homes.Homes.{Homes}
 use Rattle.program_codegen.specs.declared.points.Site.{Site}
-use Rattle.program_codegen.specs.Homes.{AreHomes, IsHome, argument_in, copied, extended_register, home_of, is_copying, placed, standing_in, with_home, is_exact}
+use Rattle.program_codegen.specs.Homes.{AreHomes, AreLasting, IsHome, IsLasting, are_left, argument_in, copied, extended_register, home_of, is_copying, is_left_alone, is_made_there, placed, standing_in, stands_in, with_home, is_exact}
 use Rattle.program_codegen.specs.Programs.{rule_of}
 use Rattle.program_codegen.proofs.Computing.{argument_is, argument_quad, checks_written, held_still, unchanged}
 use Rattle.program_codegen.proofs.HomeNumbers.{IsExtended}
@@ -40,9 +41,13 @@ module _ (to : ℕ) (home : Option ℕ) (homes : Homes) where
       differs : (k : ℕ) → (to == k) ≡ true → (temp == k) ≡ false
       differs k e = subst (λ n. (temp == n) ≡ false) (eqb-true to k e) ne
 
+      fourth : (b : Bool) → (to == 3) ≡ b → (to == 0) ≡ false → (to == 1) ≡ false → (to == 2) ≡ false → home_of (with_home to home homes) temp ≡ home_of homes temp
+      fourth true e f g h = let d = differs 3 e in rw (f, g, h, e, d) refl
+      fourth false e f g h = rw (f, g, h, e) refl
+
       third : (b : Bool) → (to == 2) ≡ b → (to == 0) ≡ false → (to == 1) ≡ false → home_of (with_home to home homes) temp ≡ home_of homes temp
       third true e f g = let d = differs 2 e in rw (f, g, e, d) refl
-      third false e f g = rw (f, g, e) refl
+      third false e f g = fourth (to == 3) refl f g e
 
       second : (b : Bool) → (to == 1) ≡ b → (to == 0) ≡ false → home_of (with_home to home homes) temp ≡ home_of homes temp
       second true e f = let d = differs 1 e in rw (f, e, d) refl
@@ -52,12 +57,16 @@ module _ (to : ℕ) (home : Option ℕ) (homes : Homes) where
       first true e = let d = differs 0 e in rw (e, d) refl
       first false e = second (to == 1) refl e
 
-  pub home_self : nat_lt to 3 ≡ true → home_of (with_home to home homes) to ≡ home
+  pub home_self : nat_lt to 4 ≡ true → home_of (with_home to home homes) to ≡ home
   home_self lt = first (to == 0) refl
     where
+      fourth : (b : Bool) → (to == 3) ≡ b → (to == 0) ≡ false → (to == 1) ≡ false → (to == 2) ≡ false → home_of (with_home to home homes) to ≡ home
+      fourth true e f g h = rw (f, g, h, e) refl
+      fourth false e f g h = let none : nat_lt to 4 ≡ false = grind (arith, nat_tests, e, f, g, h) in absurd (cc (sym none ∙ lt))
+
       third : (b : Bool) → (to == 2) ≡ b → (to == 0) ≡ false → (to == 1) ≡ false → home_of (with_home to home homes) to ≡ home
       third true e f g = rw (f, g, e) refl
-      third false e f g = let none : nat_lt to 3 ≡ false = grind (arith, nat_tests, e, f, g) in absurd (cc (sym none ∙ lt))
+      third false e f g = fourth (to == 3) refl f g e
 
       second : (b : Bool) → (to == 1) ≡ b → (to == 0) ≡ false → home_of (with_home to home homes) to ≡ home
       second true e f = rw (f, e) refl
@@ -70,9 +79,13 @@ module _ (to : ℕ) (home : Option ℕ) (homes : Homes) where
   pub home_found : (r : ℕ) → home_of (with_home to home homes) to ≡ Some r → home ≡ Some r
   home_found r is = first (to == 0) refl
     where
+      fourth : (b : Bool) → (to == 3) ≡ b → (to == 0) ≡ false → (to == 1) ≡ false → (to == 2) ≡ false → home ≡ Some r
+      fourth true e f g h = sym (let same : home_of (with_home to home homes) to ≡ home = rw (f, g, h, e) refl in same) ∙ is
+      fourth false e f g h = let none : home_of (with_home to home homes) to ≡ None = rw (f, g, h, e) refl in absurd (cc (sym none ∙ is))
+
       third : (b : Bool) → (to == 2) ≡ b → (to == 0) ≡ false → (to == 1) ≡ false → home ≡ Some r
       third true e f g = sym (let same : home_of (with_home to home homes) to ≡ home = rw (f, g, e) refl in same) ∙ is
-      third false e f g = let none : home_of (with_home to home homes) to ≡ None = rw (f, g, e) refl in absurd (cc (sym none ∙ is))
+      third false e f g = fourth (to == 3) refl f g e
 
       second : (b : Bool) → (to == 1) ≡ b → (to == 0) ≡ false → home ≡ Some r
       second true e f = sym (let same : home_of (with_home to home homes) to ≡ home = rw (f, e) refl in same) ∙ is
@@ -83,22 +96,78 @@ module _ (to : ℕ) (home : Option ℕ) (homes : Homes) where
       first false e = second (to == 1) refl e
 
   pub homes_are : IsHome home → AreHomes homes → AreHomes (with_home to home homes)
-  homes_are is are = by (to == 0) (to == 1) (to == 2)
+  homes_are is are = by (to == 0) (to == 1) (to == 2) (to == 3)
     where
-      by : (a b c : Bool) → AreHomes (if a then record homes { first = home } else if b then record homes { second = home } else if c then record homes { result = home } else homes)
-      by true b c = (is, are.1, are.2)
-      by false true c = (are.0, is, are.2)
-      by false false true = (are.0, are.1, is)
-      by false false false = are
+      by : (a b c d : Bool) → AreHomes (if a then record homes { first = home } else if b then record homes { second = home } else if c then record homes { result = home } else if d then record homes { place = home } else homes)
+      by true b c d = (is, are.1, are.2, are.3)
+      by false true c d = (are.0, is, are.2, are.3)
+      by false false true d = (are.0, are.1, is, are.3)
+      by false false false true = (are.0, are.1, are.2, is)
+      by false false false false = are
 
 pub home_is : (homes : Homes) → AreHomes homes → (temp r : ℕ) → home_of homes temp ≡ Some r → IsHome (Some r)
-home_is homes are temp r e = by (temp == 0) (temp == 1) (temp == 2) e
+home_is homes are temp r e = by (temp == 0) (temp == 1) (temp == 2) (temp == 3) e
   where
-    by : (a b c : Bool) → (if a then homes.first else if b then homes.second else if c then homes.result else None) ≡ Some r → IsHome (Some r)
-    by true b c e = subst IsHome e are.0
-    by false true c e = subst IsHome e are.1
-    by false false true e = subst IsHome e are.2
-    by false false false e = absurd (cc e)
+    by : (a b c d : Bool) → (if a then homes.first else if b then homes.second else if c then homes.result else if d then homes.place else None) ≡ Some r → IsHome (Some r)
+    by true b c d e = subst IsHome e are.0
+    by false true c d e = subst IsHome e are.1
+    by false false true d e = subst IsHome e are.2
+    by false false false true e = subst IsHome e are.3
+    by false false false false e = absurd (cc e)
+
+-- ---- homes that outlast the words for the codes
+-- of temporaries that those leave alone
+pub lasting_is : (homes : Homes) → AreLasting homes → (temp r : ℕ) → is_left_alone temp ≡ true → home_of homes temp ≡ Some r → IsLasting (Some r)
+lasting_is homes are temp r left e = by (temp == 0) (temp == 1) (temp == 2) (temp == 3) refl e
+  where
+    never : (temp == 3) ≡ true → ⊥
+    never is = let three : is_left_alone 3 ≡ true = subst (λ n. is_left_alone n ≡ true) (eqb-true temp 3 is) left in absurd (cc three)
+
+    by : (a b c d : Bool) → (temp == 3) ≡ d → (if a then homes.first else if b then homes.second else if c then homes.result else if d then homes.place else None) ≡ Some r → IsLasting (Some r)
+    by true b c d is e = subst IsLasting e are.0
+    by false true c d is e = subst IsLasting e are.1
+    by false false true d is e = subst IsLasting e are.2
+    by false false false true is e = absurd (never is)
+    by false false false false is e = absurd (cc e)
+
+-- a home elsewhere than in the register of temporary 3
+lasts : (home : Option ℕ) → IsHome home → stands_in home 24 ≡ false → IsLasting home
+lasts None is other = tt
+lasts (Some r) is other = let lt = is.0 in let apart : (r == 24) ≡ false = other in (grind (arith, nat_tests, apart, lt), is.1)
+
+-- what the words for the codes need of homes
+pub record LeftAlone (sources : CodeSources) (homes : Homes) : Type 0 where
+  pub lasting : AreLasting homes
+  pub third : (is_none homes.place || not (is_made_there sources.nzv)) ≡ true
+
+pub left_alone_is : (sources : CodeSources) (homes : Homes) → AreHomes homes → are_left sources homes ≡ true → LeftAlone sources homes
+left_alone_is sources homes are e =
+    let x = and_parts (not (stands_in homes.first 24 || stands_in homes.second 24 || stands_in homes.result 24)) (is_none homes.place || not (is_made_there sources.nzv)) e in
+    let y = none (stands_in homes.first 24) (stands_in homes.second 24) (stands_in homes.result 24) x.0 in
+    record { lasting = (lasts homes.first are.0 y.0, lasts homes.second are.1 y.1, lasts homes.result are.2 y.2); third = x.1 }
+  where
+    none : (a b c : Bool) → not (a || b || c) ≡ true → (a ≡ false) × (b ≡ false) × (c ≡ false)
+    none false false false e = (refl, refl, refl)
+    none true b c e = absurd (cc e)
+    none false true c e = absurd (cc e)
+    none false false true e = absurd (cc e)
+
+-- so they are where one has none
+pub left_alone_without : (sources : CodeSources) (homes : Homes) (to : ℕ) → LeftAlone sources homes → LeftAlone sources (with_home to None homes)
+left_alone_without sources homes to left = by (to == 0) (to == 1) (to == 2) (to == 3)
+  where
+    lasting : AreLasting homes
+    lasting = left.lasting
+
+    third : (is_none homes.place || not (is_made_there sources.nzv)) ≡ true
+    third = left.third
+
+    by : (a b c d : Bool) → LeftAlone sources (if a then record homes { first = None } else if b then record homes { second = None } else if c then record homes { result = None } else if d then record homes { place = None } else homes)
+    by true b c d = record { lasting = (tt, lasting.1, lasting.2); third = third }
+    by false true c d = record { lasting = (lasting.0, tt, lasting.2); third = third }
+    by false false true d = record { lasting = (lasting.0, lasting.1, tt); third = third }
+    by false false false true = record { lasting = lasting; third = refl }
+    by false false false false = left
 
 -- ---- arguments
 pub register_is : (r : ℕ) → IsHome (Some r) → IsArgument (argument_in r)
@@ -126,7 +195,7 @@ extended_home homes are (Flag flag) r is e = absurd (cc e)
 extended_home homes are (Const value) r is e = absurd (cc e)
 
 pub copied_home : (homes : Homes) → AreHomes homes → (to : ℕ) (op : MicroOp) (size : Size) (a : Arg) (r : ℕ) → IsArgument a → copied homes to op size a ≡ Some r → IsHome (Some r)
-copied_home homes are to op size a r is e = by (nat_lt to 3 && is_copying op size) e
+copied_home homes are to op size a r is e = by (nat_lt to 4 && is_copying op size) e
   where
     by : (c : Bool) → (if c then extended_register homes a else None) ≡ Some r → IsHome (Some r)
     by true e = extended_home homes are a r is e
@@ -138,14 +207,23 @@ hide None holding = holding
 hide (Some register) holding = Nothing
 
 abbrev pub hidden : Homes → Known → Known
-hidden homes known = record known { temp0 = hide homes.first known.temp0; temp1 = hide homes.second known.temp1; temp2 = hide homes.result known.temp2 }
+hidden homes known = record known {
+  temp0 = hide homes.first known.temp0;
+  temp1 = hide homes.second known.temp1;
+  temp2 = hide homes.result known.temp2;
+  temp3 = hide homes.place known.temp3;
+}
 
 pub held_hidden : (homes : Homes) (known : Known) (temp : ℕ) → held (hidden homes known) temp ≡ hide (home_of homes temp) (held known temp)
 held_hidden homes known temp = first (temp == 0) refl
   where
+    fourth : (b : Bool) → (temp == 3) ≡ b → (temp == 0) ≡ false → (temp == 1) ≡ false → (temp == 2) ≡ false → held (hidden homes known) temp ≡ hide (home_of homes temp) (held known temp)
+    fourth true e f g h = rw (f, g, h, e) refl
+    fourth false e f g h = rw (f, g, h, e) refl
+
     third : (b : Bool) → (temp == 2) ≡ b → (temp == 0) ≡ false → (temp == 1) ≡ false → held (hidden homes known) temp ≡ hide (home_of homes temp) (held known temp)
     third true e f g = rw (f, g, e) refl
-    third false e f g = rw (f, g, e) refl
+    third false e f g = fourth (temp == 3) refl f g e
 
     second : (b : Bool) → (temp == 1) ≡ b → (temp == 0) ≡ false → held (hidden homes known) temp ≡ hide (home_of homes temp) (held known temp)
     second true e f = rw (f, e) refl

@@ -44,7 +44,7 @@ use Rattle.program_codegen.specs.Homes.{AreHomes, IsHome, home_of, is_extended, 
 use Rattle.program_codegen.specs.Words.{copy, holder, marked, plain, probing, read_by, write_by}
 use Rattle.program_codegen.proofs.Accessing.{is_probed, kept_not_27, kept_not_scratch, kept_not_scratch_or, longword_value, read_holds, values_outlast, zero_not_scratch_or}
 use Rattle.program_codegen.proofs.Computing.{held_still, held_value, unchanged}
-use Rattle.program_codegen.proofs.HomeComputing.{not_shared}
+use Rattle.program_codegen.proofs.HomeComputing.{few_low, not_shared}
 use Rattle.program_codegen.proofs.HomeHolding.{Direct, held_own, hidden, home_is, home_self, written_held}
 use Rattle.program_codegen.proofs.HomeNumbers.{IsExtended, extended_same, extended_small}
 use Rattle.program_codegen.proofs.Holding.{HoldsAs, IsChecked, tree}
@@ -62,7 +62,7 @@ stands_low homes are temp is = by (home_of homes temp) refl
     by None e = is
     by (Some r) e = let lt = (home_is homes are temp r e).0 in record { high = omega arith }
 
--- homes outlast what leaves kept registers and those of temporaries 0 to 2
+-- homes outlast what leaves kept registers and those of temporaries 0 to 3
 home_kept : (r : ℕ) (old new : Regs) → IsHome (Some r) → ((n : ℕ) → is_kept n ≡ true → new n ≡ old n) → ((temp : ℕ) → temp < 4 → new (21 + temp) ≡ old (21 + temp)) → new r ≡ old r
 home_kept r old new is same own = by (nat_lt r 15) refl
   where
@@ -267,7 +267,7 @@ module _ (p : Placement) (site : Site) (table : IsPageTable p.pages) (bytes_writ
       by true e =
           let few = (and_parts (count == 4) (nat_lt to 3) e).1 in
           let below = ltb-true to 3 few in (
-            λ none below. let some = home_self to (Some (21 + to)) (settled homes) few in absurd (cc (sym none ∙ some)),
+            λ none below. let some = home_self to (Some (21 + to)) (settled homes) (few_low to few) in absurd (cc (sym none ∙ some)),
             (omega arith, λ not_so. omega arith),
             λ r same. subst (λ n. (value ≡ new n % 2 ^ 32) × IsExtended (new n)) (same_Some (21 + to) r same) (home e),
           )

@@ -15,7 +15,7 @@ use Rattle.alpha_encode.specs.declared.instr.Second.{Second}
 use Rattle.alpha_encode.specs.declared.instr.Second.TheVariants.{Register, Literal}
 use Rattle.alpha_meaning.specs.Loops.{fine, is_operate, written}
 use Rattle.block_law.specs.Tidy.{register_written, writes_register}
-use Rattle.program_codegen.specs.Homes.{AreHomes, IsHome, compared_raised, have_homes, home_at, is_choice, is_operand, is_operand_second, is_raised, lowered_word, moved_both, moved_by, moved_first, moved_from, moved_operand, moved_step, moved_word, moved_words, none_raised, raised_at, raised_home, raised_second, raised_step, second_home, unmoved, with_raised, with_word}
+use Rattle.program_codegen.specs.Homes.{AreLasting, IsLasting, compared_raised, have_homes, home_at, is_choice, is_operand, is_operand_second, is_raised, lowered_word, moved_both, moved_by, moved_first, moved_from, moved_operand, moved_step, moved_word, moved_words, none_raised, raised_at, raised_home, raised_second, raised_step, second_home, unmoved, with_raised, with_word}
 use Rattle.program_codegen.specs.declared.direct.Raised.{Raised}
 use Rattle.program_codegen.specs.declared.homes.Homes.{Homes}
 use Rattle.program_codegen.proofs.HomeCodes.{home_is, split, when_picked, when_some}
@@ -34,13 +34,13 @@ WordKept i None = 20 ≤ register_written i
 WordKept i (Some j) = Kept i j
 
 abbrev pub AreRaised : Raised → Type 0
-AreRaised raised = IsHome raised.first × IsHome raised.second
+AreRaised raised = IsLasting raised.first × IsLasting raised.second
 
 pub record StepKept (i : AlphaInstr) (step : Raised × Option AlphaInstr) : Type 0 where
   pub word : WordKept i step.1
   pub behind : AreRaised step.0
 
-module _ (homes : Homes) (are : AreHomes homes) where
+module _ (homes : Homes) (are : AreLasting homes) where
   small : (n r : ℕ) → home_at homes n ≡ Some r → r < 32
   small n r e = let lt = (home_is homes are n r e).0 in omega arith
 
@@ -87,15 +87,15 @@ module _ (homes : Homes) (are : AreHomes homes) where
   raised_small : (raised : Raised) (n x : ℕ) → AreRaised raised → raised_at raised n ≡ Some x → x < 32
   raised_small raised n x is e = by (n == 24) (n == 25) e
     where
-      picked : (o : Option ℕ) → IsHome o → o ≡ Some x → x < 32
-      picked o is same = let home = subst IsHome same is in let lt = home.0 in omega arith
+      picked : (o : Option ℕ) → IsLasting o → o ≡ Some x → x < 32
+      picked o is same = let home = subst IsLasting same is in let lt = home.0 in omega arith
 
       by : (a b : Bool) → (if a then raised.first else if b then raised.second else None) ≡ Some x → x < 32
       by true b e = picked raised.first is.0 e
       by false true e = picked raised.second is.1 e
       by false false e = absurd (cc e)
 
-  raised_are : (c : ℕ) (o : Option ℕ) (raised : Raised) → IsHome o → AreRaised raised → AreRaised (with_raised c o raised)
+  raised_are : (c : ℕ) (o : Option ℕ) (raised : Raised) → IsLasting o → AreRaised raised → AreRaised (with_raised c o raised)
   raised_are c o raised home is = by (c == 24) (c == 25)
     where
       by : (a b : Bool) → AreRaised (if a then record raised { first = o } else if b then record raised { second = o } else raised)
@@ -107,7 +107,7 @@ module _ (homes : Homes) (are : AreHomes homes) where
   compared_kept row.Cmplt a n x y c j lt lt' e = subst (Kept (Operate row.Cmplt a (Register n) c)) (same_Some (Operate row.Cmplt x (Register y) c) j e) (record { operates = refl; same = refl; writes = refl; encodes = λ h. (lt, lt', h.2) })
   compared_kept op a n x y c j lt lt' e = absurd (cc e)
 
-  raises : (op : OperateOp) (a : ℕ) (b : Second) (c x : ℕ) → raised_home homes op a b c ≡ Some x → (20 ≤ c) × IsHome (Some x)
+  raises : (op : OperateOp) (a : ℕ) (b : Second) (c x : ℕ) → raised_home homes op a b c ≡ Some x → (20 ≤ c) × IsLasting (Some x)
   raises row.Sll a (Literal value) c x e =
       let w = when_picked (value == 32 && is_raised c && have_homes homes) (home_at homes a) x e in
       let y = all_three (value == 32) (is_raised c) (have_homes homes) w.0 in

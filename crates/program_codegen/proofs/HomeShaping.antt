@@ -47,33 +47,33 @@ use Rattle.program_codegen.proofs.HomeFronts.{probe_front, read_front, write_fro
 use Rattle.program_codegen.specs.declared.homes.Homes.{Homes}
 use Rattle.program_codegen.specs.declared.lines.Line.{Line}
 use Rattle.program_codegen.specs.declared.points.Site.{Site}
-use Rattle.program_codegen.specs.Homes.{AreHomes, IsHome, are_short_rules, code_by, commit_stays, compared, comparison, copied, direct_code, direct_lines, direct_step, end_lines, exit_behind, exit_stays, extended_first, extended_second, home_by, home_of, is_copying, is_shared, long_operation, made, may_end, moved_words, new_home, placed, standing_in, with_home, end_words, step_by, waiting_words, choice_lines, next_exit, tested_at, tested_exit, is_short_constant, made_size, needed_words, is_extended, may_write, read_home, reading, settled, stands, all_waiting, is_exact, is_sized}
+use Rattle.program_codegen.specs.Homes.{AreHomes, IsHome, are_left, are_short_rules, code_by, commit_stays, compared, comparison, copied, direct_code, direct_lines, direct_step, end_lines, exit_behind, exit_stays, extended_first, extended_second, home_by, home_of, is_copying, is_shared, long_operation, made, made_operation, may_end, moved_words, new_home, placed, standing_in, with_home, end_words, step_by, waiting_words, choice_lines, next_exit, tested_at, tested_exit, is_short_constant, made_size, needed_words, is_extended, may_write, read_home, reading, settled, stands, all_waiting, is_exact, is_sized}
 use Rattle.program_codegen.specs.Programs.{AllHaveWords, IsExit}
 use Rattle.program_codegen.specs.Words.{departing, exit_lines, plain, trap_lines, words_of, copy, marked, probing, write_by}
 use Rattle.program_codegen.proofs.Coded.{fine_operates}
 use Rattle.program_codegen.proofs.Endings.{above_codes, codes_local, codes_quiet, departing_each, departing_goes, departing_short, departing_spares, one_word, or_nothing, traps_silent}
 use Rattle.program_codegen.proofs.Following.{opened}
 use Rattle.program_codegen.proofs.Fronts.{Shape, any_neither, quiet_kept, row_targets, row_words_are, silent_front, spares_append, targets, targets_append, words_append, free_front}
-use Rattle.program_codegen.proofs.HomeComputing.{compared_word, made_word, Joined, Literally, copying, made_operates, compared_operates, sized_unmade, Sized}
+use Rattle.program_codegen.proofs.HomeComputing.{compared_word, made_long, made_word, Joined, Literally, copying, made_operates, compared_operates, sized_unmade, Sized}
 use Rattle.program_codegen.proofs.HomeFollowing.{Stepped, ends_with, stepped, with_exit, row_apart, waits_same, reaching, where_false, where_true}
 use Rattle.program_codegen.proofs.HomeSomes.{chained, first_is, mapped}
 use Rattle.program_codegen.proofs.HomeTesting.{Tested, facts, tested}
-use Rattle.program_codegen.proofs.HomeHolding.{copied_home, extended_home, home_is, homes_are, placed_is}
+use Rattle.program_codegen.proofs.HomeHolding.{copied_home, extended_home, home_is, homes_are, left_alone_is, placed_is}
 use Rattle.program_codegen.proofs.HomeShapes.{moved_encodable, moved_fine, moved_length, moved_writes}
 use Rattle.program_codegen.proofs.HomeSparing.{IsNumbered, Quiet, Waiting, commit_count, end_operates, end_row, nothing_waits, waiting_count}
 use Rattle.program_codegen.proofs.Knowing.{nothing_behind, walk_fits, write_changes}
-use Rattle.program_codegen.proofs.Numbers.{all_three}
+use Rattle.program_codegen.proofs.Numbers.{all_three, all_four}
 use Rattle.program_codegen.proofs.Rows.{branch_encodable, changes_silent, is_silent, list_all_of}
 use Rattle.program_codegen.proofs.Shapes.{each_append, exit_each, is_local, plain_fits, row_fits}
 use Rattle.program_codegen.proofs.Walk.{plain_length}
 
 -- ---- homes
-made_few : (homes : Homes) (to : ℕ) (op : MicroOp) (size : Size) (a b : Arg) (word : AlphaInstr) → made homes to op size a b ≡ Some word → to < 3
+made_few : (homes : Homes) (to : ℕ) (op : MicroOp) (size : Size) (a b : Arg) (word : AlphaInstr) → made homes to op size a b ≡ Some word → to < 4
 made_few homes to op size a b word e = by (made_word homes to op size a b word e)
   where
-    by : Literally to op size a word ⊎ ((to ≡ 2) × (made_size op size ≡ Long) × Joined homes (long_operation op) a b 23 word) → to < 3
-    by (inl c) = ltb-true to 3 c.few
-    by (inr m) = let two = m.0 in omega arith
+    by : Literally to op size a word ⊎ ((nat_lt to 4 ≡ true) × (made_size op size ≡ Long) × Joined homes (made_operation to op) a b (21 + to) word) → to < 4
+    by (inl c) = let lt = ltb-true to 3 c.few in omega arith
+    by (inr m) = ltb-true to 4 m.0
 
 pub new_home_is : (homes : Homes) → AreHomes homes → (to : ℕ) (op : MicroOp) (size : Size) (a b : Arg) → IsArgument a → IsHome (new_home homes to op size a b)
 new_home_is homes are to op size a b is = by (copied homes to op size a) refl (made homes to op size a b) refl (is_short_constant to op size a) refl
@@ -93,14 +93,14 @@ compares Less o x s to e lt is fits = subst (λ o. IsEncodable (Operate o x s to
 compares LessUnsigned o x s to e lt is fits = subst (λ o. IsEncodable (Operate o x s to)) (same_Some row.Cmpult o e) (lt, is, fits)
 compares op o x s to e lt is fits = absurd (cc e)
 
-encodes : (op : MicroOp) (o : OperateOp) (x : ℕ) (s : Second) → long_operation op ≡ Some o → x < 32 → IsSecond s → IsEncodable (Operate o x s 23)
-encodes Add o x s e lt is = subst (λ o. IsEncodable (Operate o x s 23)) (same_Some row.Addl o e) (lt, is, lit< tt)
-encodes Sub o x s e lt is = subst (λ o. IsEncodable (Operate o x s 23)) (same_Some row.Subl o e) (lt, is, lit< tt)
-encodes And o x s e lt is = subst (λ o. IsEncodable (Operate o x s 23)) (same_Some row.And o e) (lt, is, lit< tt)
-encodes Or o x s e lt is = subst (λ o. IsEncodable (Operate o x s 23)) (same_Some row.Bis o e) (lt, is, lit< tt)
-encodes Xor o x s e lt is = subst (λ o. IsEncodable (Operate o x s 23)) (same_Some row.Xor o e) (lt, is, lit< tt)
-encodes AndNot o x s e lt is = subst (λ o. IsEncodable (Operate o x s 23)) (same_Some row.Bic o e) (lt, is, lit< tt)
-encodes op o x s e lt is = absurd (cc e)
+encodes : (op : MicroOp) (o : OperateOp) (x : ℕ) (s : Second) (to : ℕ) → long_operation op ≡ Some o → x < 32 → IsSecond s → to < 32 → IsEncodable (Operate o x s to)
+encodes Add o x s to e lt is fits = subst (λ o. IsEncodable (Operate o x s to)) (same_Some row.Addl o e) (lt, is, fits)
+encodes Sub o x s to e lt is fits = subst (λ o. IsEncodable (Operate o x s to)) (same_Some row.Subl o e) (lt, is, fits)
+encodes And o x s to e lt is fits = subst (λ o. IsEncodable (Operate o x s to)) (same_Some row.And o e) (lt, is, fits)
+encodes Or o x s to e lt is fits = subst (λ o. IsEncodable (Operate o x s to)) (same_Some row.Bis o e) (lt, is, fits)
+encodes Xor o x s to e lt is fits = subst (λ o. IsEncodable (Operate o x s to)) (same_Some row.Xor o e) (lt, is, fits)
+encodes AndNot o x s to e lt is fits = subst (λ o. IsEncodable (Operate o x s to)) (same_Some row.Bic o e) (lt, is, fits)
+encodes op o x s to e lt is fits = absurd (cc e)
 
 module _ (homes : Homes) (are : AreHomes homes) where
   first_fits : (a : Arg) (r : ℕ) → IsArgument a → extended_first homes a ≡ Some r → r < 32
@@ -222,7 +222,7 @@ module _ (homes : Homes) (are : AreHomes homes) where
           some_words ZeroExtend Quad is = lit≤ tt
           some_words op size is = absurd (cc is)
 
-          of : Literally to op size a word ⊎ ((to ≡ 2) × (made_size op size ≡ Long) × Joined homes (long_operation op) a b 23 word) → Words (count_of (Compute to op size a b)) (word ∷ [])
+          of : Literally to op size a word ⊎ ((nat_lt to 4 ≡ true) × (made_size op size ≡ Long) × Joined homes (made_operation to op) a b (21 + to) word) → Words (count_of (Compute to op size a b)) (word ∷ [])
           of (inl c) =
               let word_counts = some_words op size c.copies in
               let few = ltb-true to 3 c.few in
@@ -238,13 +238,18 @@ module _ (homes : Homes) (are : AreHomes homes) where
           of (inr m) =
               let j = m.2 in
               let x_fits = first_fits a j.first a_is j.is_first in
-              let word_counts = made_words op size j.operation j.is_operation in
+              let long = made_long to op j.operation j.is_operation in
+              let word_counts = made_words op size j.operation long in
+              let low = ltb-true to 4 m.0 in
               let count : 1 ≤ count_of (Compute to op size a b) = omega arith in
               record {
-                encodable = subst (λ (w : AlphaInstr). All IsEncodable (w ∷ [])) (sym j.is) (one_word (Operate j.operation j.first j.second 23) (encodes op j.operation j.first j.second j.is_operation (omega arith) (second_fits b j.second (b_is (binary op j.operation j.is_operation)) j.is_second)));
-                silent = subst (λ (w : AlphaInstr). list_all is_silent (w ∷ []) ≡ true) (sym j.is) refl;
+                encodable = subst (λ (w : AlphaInstr). All IsEncodable (w ∷ [])) (sym j.is) (one_word (Operate j.operation j.first j.second (21 + to)) (encodes op j.operation j.first j.second (21 + to) long (omega arith) (second_fits b j.second (b_is (binary op j.operation long)) j.is_second) (omega arith)));
+                silent = subst (λ (w : AlphaInstr). list_all is_silent (w ∷ []) ≡ true) (sym j.is) (quiet low);
                 few = count;
               }
+            where
+              quiet : to < 4 → (not (is_kept (21 + to)) && true) ≡ true
+              quiet lt = grind (arith, nat_tests)
       by None e None f (Some word) h =
           let m = compared_word homes to op size a b word h in
           let j = m.1 in
@@ -311,17 +316,18 @@ module _ (site : Site) (codes : List AlphaInstr) (after_fits : site.after < 2 ^ 
   end_shape : (homes : Homes) → AreHomes homes → Waiting homes → (commit : Option (ℕ × ℕ)) (exit : Exit) (words : List AlphaInstr) (changed : Bool) → moved_words homes codes ≡ Some words → may_end site homes commit exit ≡ true → IsNumbered commit → IsExit exit
       → Shape site changed codes (exit_addresses site.after exit) (59 + commit_count commit + waiting_count homes) (end_lines site homes commit exit words)
   end_shape homes are waits commit exit words changed moved may numbered is =
-      let x = all_three (commit_stays commit) (exit_stays homes exit) (are_short_rules site.behind) may in
+      let x = all_four (are_left site.sources homes) (commit_stays commit) (exit_stays homes exit) (are_short_rules site.behind) may in
+      let lasting = (left_alone_is site.sources homes are x.0).lasting in
       let rest = trap_lines site exit ++ departing site exit in
       let row = end_words homes commit exit words in
-      let behind = leaving_shape homes exit is x.1 in
-      let fine_words = moved_fine homes are (may_be_written site.sources) codes words moved only in
+      let behind = leaving_shape homes exit is x.2 in
+      let fine_words = moved_fine homes lasting (may_be_written site.sources) codes words moved only in
       let operate = fine_operates (may_be_written site.sources) words fine_words in
       let any = anything (end_words homes commit exit words) (end_operates homes commit exit words waits.before.operate waits.last.operate operate) in
-      let s = end_row homes are waits commit exit words x.0 numbered (moved_encodable homes are codes words moved encodable) operate in
+      let s = end_row homes are waits commit exit words x.1 numbered (moved_encodable homes lasting codes words moved encodable) operate in
       let size = length-append (map plain (end_words homes commit exit words)) rest in
       let count = plain_length (end_words homes commit exit words) in
-      let same = moved_length homes are codes words moved in
+      let same = moved_length homes lasting codes words moved in
       let short = behind.short in
       let most = s.few in
       record {
@@ -332,7 +338,7 @@ module _ (site : Site) (codes : List AlphaInstr) (after_fits : site.after < 2 ^ 
             ap (writes_register r) (words_append (map plain (end_words homes commit exit words)) rest)
             ∙ (list_any-append (λ i. register_written i == r) (words_of (map plain (end_words homes commit exit words))) (words_of rest)
             ∙ (ap (λ xs. writes_register r xs || writes_register r (words_of rest)) (row_words_are (end_words homes commit exit words))
-            ∙ (ap (λ b. writes_register r (end_words homes commit exit words) || b) (behind.writes r low high) ∙ (or_nothing (writes_register r (end_words homes commit exit words)) ∙ (s.writes r low high ∙ moved_writes homes are r high codes words moved)))));
+            ∙ (ap (λ b. writes_register r (end_words homes commit exit words) || b) (behind.writes r low high) ∙ (or_nothing (writes_register r (end_words homes commit exit words)) ∙ (s.writes r low high ∙ moved_writes homes lasting r high codes words moved)))));
         short = omega arith;
       }
 
@@ -446,7 +452,7 @@ module _ (site : Site) (codes : List AlphaInstr) (after_fits : site.after < 2 ^ 
           → Shape site changed codes (addresses_of site.after program) (count_of (Compute to op size a b) + program_words site.sources program + 59 + waiting_count homes) (map plain (waiting_words homes.before) ++ rest)
       waits_on rest shape are' word w operate is =
           let quiet : Quiet (Some word) = record { encodable = w.encodable; silent = w.silent; operate = ap (λ c. c && true) operate } in
-          let behind = shape (record homes_then { before = homes.waiting; waiting = Some word }) (are'.0, are'.1, are'.2) (record { before = waits.last; last = quiet }) is in
+          let behind = shape (record homes_then { before = homes.waiting; waiting = Some word }) (are'.0, are'.1, are'.2, are'.3) (record { before = waits.last; last = quiet }) is in
           let most = w.few in
           let count = plain_length (waiting_words homes.before) in
           silent_front site codes (addresses_of site.after program) changed (length (waiting_words homes.before)) (program_words site.sources program + 59 + (length (waiting_words homes.waiting) + 1)) _ (waiting_words homes.before) rest
@@ -477,7 +483,7 @@ module _ (site : Site) (codes : List AlphaInstr) (after_fits : site.after < 2 ^ 
           waits_on rest shape are' word (subst (Words homes are (count_of (Compute to op size a b))) code w) (compared_operates homes to op size a b word h) is
       by_words rest shape are' target a_is b_is either None e None f None h is =
           let w = direct_words homes are to op size a b target a_is b_is either in
-          let behind = shape (record homes_then { before = None; waiting = None }) (are'.0, are'.1, are'.2) (record { before = nothing_waits; last = nothing_waits }) is in
+          let behind = shape (record homes_then { before = None; waiting = None }) (are'.0, are'.1, are'.2, are'.3) (record { before = nothing_waits; last = nothing_waits }) is in
           let most = w.few in
           let count = plain_length (waiting_words homes.before) in
           let counts = plain_length (waiting_words homes.waiting) in

@@ -43,7 +43,7 @@ use Rattle.block_law.proofs.Rules.{Always, operates, passes, roomy, skips}
 use Rattle.program_codegen.specs.declared.homes.Homes.{Homes}
 use Rattle.program_codegen.specs.declared.lines.Line.{Line}
 use Rattle.program_codegen.specs.declared.points.Site.{Site}
-use Rattle.program_codegen.specs.Homes.{AreHomes, are_short_rules, bit_register, bit_test, byte_test, choice_lines, code_test, copied, home_of, is_direct, made, may_test, moved_words, new_home, placed, standing_in, test_of, tested_exit, waiting_words, with_home, home_by, is_short_constant, long_test, needed_words, tested_words}
+use Rattle.program_codegen.specs.Homes.{AreHomes, are_left, are_short_rules, bit_register, bit_test, byte_test, choice_lines, code_test, copied, home_of, is_direct, made, may_test, moved_words, new_home, placed, standing_in, test_of, tested_exit, waiting_words, with_home, home_by, is_short_constant, long_test, needed_words, tested_words}
 use Rattle.program_codegen.specs.Programs.{rule_of}
 use Rattle.program_codegen.specs.Words.{exit_lines, may_trap, plain}
 use Rattle.program_codegen.proofs.Coded.{Coded}
@@ -52,10 +52,10 @@ use Rattle.program_codegen.proofs.Exiting.{exit_value, exits_to}
 use Rattle.program_codegen.proofs.Holding.{Setting, ends, found, tree}
 use Rattle.program_codegen.proofs.HomeComputing.{given}
 use Rattle.program_codegen.proofs.HomeEnding.{Waits, begins, effect_other, effects_append, coded_alike, emptied, leaves_codes, overflows}
-use Rattle.program_codegen.proofs.HomeHolding.{Direct, held_own, hidden, home_is}
+use Rattle.program_codegen.proofs.HomeHolding.{Direct, LeftAlone, held_own, hidden, home_is, left_alone_is, left_alone_without}
 use Rattle.program_codegen.proofs.HomeSomes.{mapped}
 use Rattle.program_codegen.proofs.HomeSparing.{all_append}
-use Rattle.program_codegen.proofs.Numbers.{all_three, all_four}
+use Rattle.program_codegen.proofs.Numbers.{all_three, all_five}
 use Rattle.program_codegen.proofs.Testing.{trap_or}
 use Rattle.program_codegen.proofs.Trapping.{pc_left, untrapped}
 use Rattle.program_codegen.proofs.Walk.{Within, behind_exit, is_inside, next, row_length, row_rest, row_words, stands}
@@ -108,6 +108,7 @@ pub record Facts (homes : Homes) (to : ℕ) (op : MicroOp) (size : Size) (a b : 
   pub unselected : is_select op ≡ false
   pub uncopied : copied homes to op size a ≡ None
   pub homeless : made homes to op size a b ≡ None → home_of (with_home to (new_home homes to op size a b) homes) to ≡ None
+  pub unhomed : made homes to op size a b ≡ None → new_home homes to op size a b ≡ None
   pub unlinked : links test.0 ≡ false
   pub small : IsArgument a → test.1 < 32
   pub value : (regs : Regs) (held : ℕ) → ((n : ℕ) → 16 ≤ n → n < 20 → regs n < 2) → (computed op size (value_at regs (placed homes a)) (value_at regs (placed homes b)) held == 0) ≡ taken test.0 (regs test.1)
@@ -174,6 +175,9 @@ module _ (homes : Homes) (are : AreHomes homes) where
         homeless = λ unmade.
             ap (λ (o : Option AlphaInstr). home_of (with_home to (home_by (copied homes to And Byte a) o (is_short_constant to And Byte a) to) homes) to) unmade
             ∙ by_six (λ n. home_of (with_home n (home_by (copied homes n And Byte a) None (is_short_constant n And Byte a) n) homes) n ≡ None) refl refl refl refl refl refl to lt;
+        unhomed = λ unmade.
+            ap (λ (o : Option AlphaInstr). home_by (copied homes to And Byte a) o (is_short_constant to And Byte a) to) unmade
+            ∙ by_six (λ n. home_by (copied homes n And Byte a) None (is_short_constant n And Byte a) n ≡ None) refl refl refl refl refl refl to lt;
         unlinked = refl;
         small = bit_small a r e;
         value = λ regs held codes. ap (λ n. n == 0) (bit_value (value_at regs (placed homes a)) held ∙ same_bit a r regs e);
@@ -187,6 +191,9 @@ module _ (homes : Homes) (are : AreHomes homes) where
         homeless = λ unmade.
             ap (λ (o : Option AlphaInstr). home_of (with_home to (home_by (copied homes to And Long a) o (is_short_constant to And Long a) to) homes) to) unmade
             ∙ by_six (λ n. home_of (with_home n (home_by (copied homes n And Long a) None (is_short_constant n And Long a) n) homes) n ≡ None) refl refl refl refl refl refl to lt;
+        unhomed = λ unmade.
+            ap (λ (o : Option AlphaInstr). home_by (copied homes to And Long a) o (is_short_constant to And Long a) to) unmade
+            ∙ by_six (λ n. home_by (copied homes n And Long a) None (is_short_constant n And Long a) n ≡ None) refl refl refl refl refl refl to lt;
         unlinked = refl;
         small = bit_small a r e;
         value = λ regs held codes. ap (λ n. n == 0) (long_value (value_at regs (placed homes a)) held ∙ same_bit a r regs e);
@@ -198,6 +205,7 @@ module _ (homes : Homes) (are : AreHomes homes) where
         unselected = refl;
         uncopied = by_six (λ n. copied homes n Move Byte (arguments.Flag flag) ≡ None) refl refl refl refl refl refl to lt;
         homeless = λ unmade. by_six (λ n. home_of (with_home n (new_home homes n Move Byte (arguments.Flag flag) b) homes) n ≡ None) refl refl refl refl refl refl to lt;
+        unhomed = λ unmade. by_six (λ n. new_home homes n Move Byte (arguments.Flag flag) b ≡ None) refl refl refl refl refl refl to lt;
         unlinked = refl;
         small = λ is. omega arith;
         value = λ regs held codes. of regs held (codes (16 + flag) (omega arith) (omega arith));
@@ -220,6 +228,7 @@ pub record Tested (site : Site) (codes : List AlphaInstr) (homes : Homes) (to : 
   pub no_codes : codes ≡ []
   pub no_trap : may_trap site ≡ false
   pub short : are_short_rules site.behind ≡ true
+  pub alone : are_left site.sources homes ≡ true
   pub test : BranchOp × ℕ
   pub found : test_of homes op size a b ≡ Some test
   pub whole : map plain (tested_words to test.1 homes) ++ choice_lines test chosen other ≡ lines
@@ -239,7 +248,7 @@ tested site codes homes to op size a b (exits.Choice when chosen other) lines e 
         → (if c then option_map (λ (test : BranchOp × ℕ). map plain (tested_words to test.1 homes) ++ choice_lines test chosen other) (test_of homes op size a b) else None) ≡ Some lines → Tested site codes homes to op size a b (exits.Choice when chosen other) lines
     by true is e =
         let x = and_parts (when == to) (may_test site codes homes to op size a b) is in
-        let y = all_four (nat_lt to 6 && is_direct homes to op size a b && is_none (made homes to op size a b)) (length codes == 0) (not (may_trap site)) (are_short_rules site.behind) x.1 in
+        let y = all_five (nat_lt to 6 && is_direct homes to op size a b && is_none (made homes to op size a b)) (length codes == 0) (not (may_trap site)) (are_short_rules site.behind) (are_left site.sources homes) x.1 in
         let first = all_three (nat_lt to 6) (is_direct homes to op size a b) (is_none (made homes to op size a b)) y.0 in
         let m = mapped (BranchOp × ℕ) (List Line) (λ (test : BranchOp × ℕ). map plain (tested_words to test.1 homes) ++ choice_lines test chosen other) (test_of homes op size a b) lines e in
         record {
@@ -252,6 +261,7 @@ tested site codes homes to op size a b (exits.Choice when chosen other) lines e 
           no_codes = none codes y.1;
           no_trap = not-true (may_trap site) y.2;
           short = y.3;
+          alone = y.4;
           test = m.found;
           found = m.is;
           whole = m.whole;
@@ -383,8 +393,11 @@ module _ (p : Placement) (site : Site) (codes : List AlphaInstr) (setting : Sett
       no_words : moved_words homes_then codes ≡ Some []
       no_words = ap (moved_words homes_then) s.no_codes
 
+      alone : LeftAlone site.sources homes_then
+      alone = subst (λ (o : Option ℕ). LeftAlone site.sources (with_home to o homes)) (sym (f.unhomed s.unmade)) (left_alone_without site.sources homes to (left_alone_is site.sources homes d.are s.alone))
+
       coded : Coded p site (hidden homes_then behind) after whole
-      coded = leaves_codes p site codes setting behind homes_then after whole d' [] (trap_or site after (exits.Choice to s.chosen s.other) onward) no_words sources s.short left come
+      coded = leaves_codes p site codes setting behind homes_then after whole d' [] (trap_or site after (exits.Choice to s.chosen s.other) onward) alone no_words sources s.short left come
 
       coded_now : Coded p site (emptied (hidden homes_then behind)) after now
       coded_now = let own = s.own in

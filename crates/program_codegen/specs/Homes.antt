@@ -18,6 +18,8 @@ use Rattle.exception_records.specs.declared.rules.CodeRule.TheVariants as rules
 use Rattle.exception_records.specs.declared.rules.Rules.{Rules}
 use Rattle.micro_ops.specs.LeftOut.{is_left_out}
 use Rattle.micro_ops.specs.Uses.{is_quad, is_select}
+use Rattle.micro_ops.specs.declared.codes.CodeSource.{CodeSource}
+use Rattle.micro_ops.specs.declared.codes.CodeSource.TheVariants as code_sources
 use Rattle.micro_ops.specs.declared.codes.CodeSources.{CodeSources}
 use Rattle.micro_ops.specs.declared.program.Arg.{Arg}
 use Rattle.micro_ops.specs.declared.program.Arg.TheVariants as arguments
@@ -37,21 +39,22 @@ use Rattle.program_codegen.specs.declared.points.Site.{Site}
 use Rattle.program_codegen.specs.Words.{plain, marked, holder, copy, probing, exit_lines, may_trap, read_by, trap_lines, departing, write_by}
 
 -- ---- homes
--- Temporaries 0 to 2 may be the low longword of a register that is extended with its sign: of a VAX register, or of one of
+-- Temporaries 0 to 3 may be the low longword of a register that is extended with its sign: of a VAX register, or of one of
 -- their own. All others stand in their own registers, exactly. The last two words may wait.
 abbrev pub no_homes : Homes
-no_homes = record { first = None; second = None; result = None; before = None; waiting = None }
+no_homes = record { first = None; second = None; result = None; place = None; before = None; waiting = None }
 
 abbrev pub home_of : Homes → (temp : ℕ) → Option ℕ
 home_of homes temp =
-    if temp == 0 then homes.first else if temp == 1 then homes.second else if temp == 2 then homes.result else None
+    if temp == 0 then homes.first else if temp == 1 then homes.second else if temp == 2 then homes.result
+    else if temp == 3 then homes.place else None
 
 abbrev pub with_home : (temp : ℕ) → Option ℕ → Homes → Homes
 with_home temp home homes =
     if temp == 0 then record homes { first = home } else if temp == 1 then record homes { second = home }
-    else if temp == 2 then record homes { result = home } else homes
+    else if temp == 2 then record homes { result = home } else if temp == 3 then record homes { place = home } else homes
 
--- the home of the temporary that has this register
+-- the home of the temporary, of those that the words for the codes read, that has this register
 abbrev pub home_at : Homes → (register : ℕ) → Option ℕ
 home_at homes register =
     if register == holder 0 then homes.first else if register == holder 1 then homes.second
@@ -61,13 +64,21 @@ abbrev pub stands_in : Option ℕ → (register : ℕ) → Bool
 stands_in None register = false
 stands_in (Some home) register = home == register
 
--- a VAX register, or one of temporaries 0 to 2
+-- a VAX register, or one of temporaries 0 to 3
 abbrev pub IsHome : Option ℕ → Type 0
 IsHome None = Unit {0}
-IsHome (Some register) = (register < 24) × (nat_lt register 15 ≡ false → 21 ≤ register)
+IsHome (Some register) = (register < 25) × (nat_lt register 15 ≡ false → 21 ≤ register)
 
 abbrev pub AreHomes : Homes → Type 0
-AreHomes homes = IsHome homes.first × IsHome homes.second × IsHome homes.result
+AreHomes homes = IsHome homes.first × IsHome homes.second × IsHome homes.result × IsHome homes.place
+
+-- one that outlasts the words for the codes, which write the registers of temporaries 3 and 4
+abbrev pub IsLasting : Option ℕ → Type 0
+IsLasting None = Unit {0}
+IsLasting (Some register) = (register < 24) × (nat_lt register 15 ≡ false → 21 ≤ register)
+
+abbrev pub AreLasting : Homes → Type 0
+AreLasting homes = IsLasting homes.first × IsLasting homes.second × IsLasting homes.result
 
 -- another temporary stands in this one's register
 abbrev pub is_shared : Homes → (temp : ℕ) → Bool
@@ -75,6 +86,7 @@ is_shared homes temp =
     (not (temp == 0) && stands_in homes.first (holder temp))
     || (not (temp == 1) && stands_in homes.second (holder temp))
     || (not (temp == 2) && stands_in homes.result (holder temp))
+    || (not (temp == 3) && stands_in homes.place (holder temp))
 
 -- ---- computations
 -- the argument that a register holds
@@ -131,14 +143,14 @@ abbrev pub one_word : Option OperateOp → Homes → Size → (a b : Arg) → (t
 one_word op homes Long a b to = joined_word op (extended_first homes a) (extended_second homes b) to
 one_word op homes size a b to = None
 
--- What a computation does: it copies, and has no words; it has one word, whose result in temporary 2 is extended with its
--- sign, or which compares; it is a short constant; or else.
+-- What a computation does: it copies, and has no words; it has one word, whose result is extended with its sign, or which
+-- compares; it is a short constant; or else.
 abbrev pub is_copying : MicroOp → Size → Bool
 is_copying op Long = is_moved op
 is_copying op size = false
 
 abbrev pub copied : Homes → (to : ℕ) → MicroOp → Size → (a : Arg) → Option ℕ
-copied homes to op size a = if nat_lt to 3 && is_copying op size then extended_register homes a else None
+copied homes to op size a = if nat_lt to 4 && is_copying op size then extended_register homes a else None
 
 -- a logical operation on longwords gives the same as one on quadwords
 abbrev pub is_logical : MicroOp → Bool
@@ -156,10 +168,20 @@ abbrev pub literal_word : (to : ℕ) → Arg → Option AlphaInstr
 literal_word to (arguments.Const value) = if nat_lt value 256 then Some (Operate row.Bis ZERO (seconds.Literal value) to) else None
 literal_word to arg = None
 
+-- a sum or a difference, which may be an address
+abbrev pub sum_operation : MicroOp → Option OperateOp
+sum_operation Add = Some row.Addl
+sum_operation Sub = Some row.Subl
+sum_operation op = None
+
+-- what one word makes in a temporary: each result in temporary 2, and in others sums
+abbrev pub made_operation : (to : ℕ) → MicroOp → Option OperateOp
+made_operation to op = if to == 2 then long_operation op else sum_operation op
+
 abbrev pub made : Homes → (to : ℕ) → MicroOp → Size → (a b : Arg) → Option AlphaInstr
 made homes to op size a b =
     if nat_lt to 3 && is_moved op then literal_word (holder to) a
-    else if to == 2 then one_word (long_operation op) homes (made_size op size) a b (holder 2) else None
+    else if nat_lt to 4 then one_word (made_operation to op) homes (made_size op size) a b (holder to) else None
 
 abbrev pub compared : Homes → (to : ℕ) → MicroOp → Size → (a b : Arg) → Option AlphaInstr
 compared homes to op size a b = one_word (comparison op) homes size a b (holder to)
@@ -470,8 +492,19 @@ abbrev pub end_lines : Site → Homes → (commit : Option (ℕ × ℕ)) → Exi
 end_lines site homes commit exit codes =
     map plain (end_words homes commit exit codes) ++ (trap_lines site exit ++ departing site exit)
 
+-- V that an instruction makes by itself is read in the register of temporary 3
+abbrev pub is_made_there : CodeSource → Bool
+is_made_there (code_sources.Computed size) = true
+is_made_there source = false
+
+-- No operand stands in the register of temporary 3, which the words for the codes write, and what they read there does.
+abbrev pub are_left : CodeSources → Homes → Bool
+are_left sources homes =
+    not (stands_in homes.first (holder 3) || stands_in homes.second (holder 3) || stands_in homes.result (holder 3))
+    && (is_none homes.place || not (is_made_there sources.nzv))
+
 abbrev pub may_end : Site → Homes → (commit : Option (ℕ × ℕ)) → Exit → Bool
-may_end site homes commit exit = commit_stays commit && exit_stays homes exit && are_short_rules site.behind
+may_end site homes commit exit = are_left site.sources homes && commit_stays commit && exit_stays homes exit && are_short_rules site.behind
 
 abbrev pub direct_end : Site → (codes : List AlphaInstr) → Homes → (commit : Option (ℕ × ℕ)) → Exit → Option (List Line)
 direct_end site codes homes commit exit =
@@ -617,7 +650,7 @@ tested_words to register homes = waiting_words homes.before ++ needed_words to r
 abbrev pub may_test : Site → (codes : List AlphaInstr) → Homes → (to : ℕ) → MicroOp → Size → (a b : Arg) → Bool
 may_test site codes homes to op size a b =
     nat_lt to 6 && is_direct homes to op size a b && is_none (made homes to op size a b) && length codes == 0 && not (may_trap site)
-    && are_short_rules site.behind
+    && are_short_rules site.behind && are_left site.sources homes
 
 abbrev pub tested_exit : Site → (codes : List AlphaInstr) → Homes → (to : ℕ) → MicroOp → Size → (a b : Arg) → Exit → Option (List Line)
 tested_exit site codes homes to op size a b (Choice when taken other) =

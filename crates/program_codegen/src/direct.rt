@@ -1,10 +1,10 @@
 // The words of programs whose operands are used where they stand.
 ghost use Rattle.std.specs.Prelude.{◌≡◌, ◌++◌, ◌∷◌, IfOk, IfSome, OnOk, MatchOption, None, Some, map, true};
 ghost use Rattle.program_codegen.specs.Words.{plain};
-ghost use Rattle.program_codegen.specs.Homes.{is_operand, is_operand_second, second_home, is_choice, unmoved, moved_operand, moved_both, moved_first, moved_by, is_raised, raised_at, raised_second, with_raised, have_homes, raised_home, compared_raised, moved_word, moved_step, moved_words, is_short_rule, are_short_rules, is_wordless, exit_of, exit_behind, with_commit, end_at, exit_stays, commit_stays, commit_words, may_end, direct_end, ended_lines, goes_on, homes_at, step_at, lines_at, direct_lines, no_homes, AreHomes, end_words};
+ghost use Rattle.program_codegen.specs.Homes.{is_operand, is_operand_second, second_home, is_choice, unmoved, moved_operand, moved_both, moved_first, moved_by, is_raised, raised_at, raised_second, with_raised, have_homes, raised_home, compared_raised, moved_word, moved_step, moved_words, is_short_rule, are_short_rules, is_wordless, exit_of, exit_behind, with_commit, end_at, exit_stays, commit_stays, commit_words, is_made_there, are_left, may_end, direct_end, ended_lines, goes_on, homes_at, step_at, lines_at, direct_lines, no_homes, AreHomes, end_words};
 ghost use Rattle.program_codegen.specs.Programs.{AllFitWords, HasWords, IsExit, IsRanged, IsRangedExit, RangedToLeave, is_narrow};
 
-use crate::homes::{Homes, NO_HOMES, home_at, home_of, is_direct, push_direct};
+use crate::homes::{Homes, NO_HOMES, home_at, home_of, is_direct, push_direct, stands_in};
 use crate::leaving::{push_departing, push_trap};
 use crate::lines::{Line, holder, push_words};
 use crate::points::Site;
@@ -14,7 +14,7 @@ use crate::tested::tested_at;
 use alpha_encode::registers::{CARRY_FIRST, CARRY_SECOND, RULE_FIRST, RULE_SECOND, TEMPORARIES};
 use alpha_encode::{AlphaInstr, OperateOp, Second, operate, operate_by};
 use exception_records::{CodeRule, Rules};
-use micro_ops::{CodeSources, Exit, Micro, is_left_out};
+use micro_ops::{CodeSource, CodeSources, Exit, Micro, is_left_out};
 use std::alloc::{AllocError, Global};
 use vax_form::{Size, WantOfMemory};
 
@@ -384,10 +384,30 @@ fn commit_stays(commit: Commit) -> bool
     }
 }
 
+/// Whether it is V that an instruction makes by itself, which is read in the register of temporary 3.
+fn is_made_there(source: CodeSource) -> bool
+    ensures { result ≡ is_made_there source }
+{
+    matches!(source, CodeSource::Computed(_))
+}
+
+/// Whether no operand stands in the register of temporary 3, which the words for the codes write, and what they read there does.
+pub(crate) fn are_left(sources: CodeSources, homes: Homes) -> bool
+    ensures { result ≡ are_left sources homes }
+{
+    !(stands_in(homes.first, FIRST_RAISED)
+        || stands_in(homes.second, FIRST_RAISED)
+        || stands_in(homes.result, FIRST_RAISED))
+        && (homes.place.is_none() || !is_made_there(sources.nzv))
+}
+
 fn may_end(site: Site, homes: Homes, commit: Commit, exit: Exit) -> bool
     ensures { result ≡ may_end site homes commit exit }
 {
-    commit_stays(commit) && exit_stays(homes, exit) && are_short_rules(site.behind)
+    are_left(site.sources, homes)
+        && commit_stays(commit)
+        && exit_stays(homes, exit)
+        && are_short_rules(site.behind)
 }
 
 /// The words for the codes, the register that is written, the trap on overflow, and the exits.

@@ -3,7 +3,7 @@ ghost use Rattle.std.specs.Prelude.{◌≡◌, ◌++◌, ◌≤◌, OnOk, IfOk, 
 ghost use Rattle.compute_sequences.specs.Registers.{IsArgument, IsTarget};
 ghost use Rattle.compute_sequences.specs.Words.{is_moved};
 ghost use Rattle.micro_ops.specs.Uses.{is_unary};
-ghost use Rattle.program_codegen.specs.Homes.{AreHomes, home_of, with_home, all_waiting, home_at, stands_in, is_shared, argument_in, standing_in, placed, extended_register, extended_second, extended_first, long_operation, comparison, joined_word, one_word, is_copying, copied, is_logical, made_size, made, compared, new_home, direct_code, is_direct, waiting_words, direct_by, is_short_constant, literal_word, is_exact, is_sized};
+ghost use Rattle.program_codegen.specs.Homes.{AreHomes, home_of, with_home, all_waiting, home_at, stands_in, is_shared, argument_in, standing_in, placed, extended_register, extended_second, extended_first, long_operation, sum_operation, made_operation, comparison, joined_word, one_word, is_copying, copied, is_logical, made_size, made, compared, new_home, direct_code, is_direct, waiting_words, direct_by, is_short_constant, literal_word, is_exact, is_sized};
 ghost use Rattle.program_codegen.specs.Words.{holder, plain};
 
 use crate::lines::{Line, holder, push_words};
@@ -18,20 +18,25 @@ use vax_form::{Size, WantOfMemory};
 const VAX_REGISTERS: u8 = 15;
 /// The temporary of a result.
 const RESULT: u8 = 2;
+/// That of the place of a reference.
+const PLACE: u8 = 3;
 /// How many temporaries may have a home.
-pub(crate) const HOMES: u8 = 3;
+const HOMES: u8 = 4;
+/// How many of them, the first ones, are what the words for the codes read.
+pub(crate) const VALUES: u8 = 3;
 /// The least number that is no literal.
 const LITERALS: u64 = 0x100;
 /// The least number that one load of an address doesn't leave.
 const SHORT: u64 = 0x8000;
 
-/// For temporaries 0 to 2 the register, extended with its sign, whose low longword each is. One without stands in its own
+/// For temporaries 0 to 3 the register, extended with its sign, whose low longword each is. One without stands in its own
 /// register, exactly.
 #[derive(Clone, Copy)]
 pub(crate) struct Homes {
     pub(crate) first: Option<u8>,
     pub(crate) second: Option<u8>,
     pub(crate) result: Option<u8>,
+    pub(crate) place: Option<u8>,
     /// The last two words, where they wait.
     pub(crate) before: Option<AlphaInstr>,
     pub(crate) waiting: Option<AlphaInstr>,
@@ -41,6 +46,7 @@ pub(crate) const NO_HOMES: Homes = Homes {
     first: None,
     second: None,
     result: None,
+    place: None,
     before: None,
     waiting: None,
 };
@@ -52,6 +58,7 @@ pub(crate) fn home_of(homes: Homes, temp: u8) -> Option<u8>
         0 => homes.first,
         1 => homes.second,
         RESULT => homes.result,
+        PLACE => homes.place,
         _ => None,
     }
 }
@@ -72,11 +79,15 @@ pub(crate) fn with_home(temp: u8, home: Option<u8>, homes: Homes) -> Homes
             result: home,
             ..homes
         },
+        PLACE => Homes {
+            place: home,
+            ..homes
+        },
         _ => homes,
     }
 }
 
-/// The home of the temporary that has this register.
+/// The home of the temporary, of those that the words for the codes read, that has this register.
 pub(crate) fn home_at(homes: Homes, register: u8) -> Option<u8>
     ensures { result ≡ home_at homes register }
 {
@@ -109,6 +120,7 @@ pub(crate) fn is_shared(homes: Homes, temp: u8) -> bool
     (temp != 0 && stands_in(homes.first, register))
         || (temp != 1 && stands_in(homes.second, register))
         || (temp != RESULT && stands_in(homes.result, register))
+        || (temp != PLACE && stands_in(homes.place, register))
 }
 
 /// The argument that a register holds.
@@ -192,6 +204,28 @@ fn long_operation(op: MicroOp) -> Option<OperateOp>
         MicroOp::Xor => Some(OperateOp::Xor),
         MicroOp::AndNot => Some(OperateOp::Bic),
         _ => None,
+    }
+}
+
+/// A sum or a difference, which may be an address.
+fn sum_operation(op: MicroOp) -> Option<OperateOp>
+    ensures { result ≡ sum_operation op }
+{
+    match op {
+        MicroOp::Add => Some(OperateOp::Addl),
+        MicroOp::Sub => Some(OperateOp::Subl),
+        _ => None,
+    }
+}
+
+/// What one word makes in a temporary.
+fn made_operation(to: u8, op: MicroOp) -> Option<OperateOp>
+    ensures { result ≡ made_operation to op }
+{
+    if to == RESULT {
+        long_operation(op)
+    } else {
+        sum_operation(op)
     }
 }
 
@@ -300,7 +334,7 @@ fn literal_word(to: u8, arg: Arg) -> Option<AlphaInstr>
     }
 }
 
-/// A word whose result is extended with its sign: a literal, or an operation into temporary 2.
+/// A word whose result is extended with its sign: a literal, or an operation.
 pub(crate) fn made(
     homes: Homes,
     to: u8,
@@ -311,16 +345,16 @@ pub(crate) fn made(
 ) -> Option<AlphaInstr>
     ensures { result ≡ made homes to op size a b }
 {
-    if to < HOMES && is_moved(op) {
+    if to < VALUES && is_moved(op) {
         literal_word(holder(to), a)
-    } else if to == RESULT {
+    } else if to < HOMES {
         one_word(
-            long_operation(op),
+            made_operation(to, op),
             homes,
             made_size(op, size),
             a,
             b,
-            holder(RESULT),
+            holder(to),
         )
     } else {
         None
@@ -337,7 +371,7 @@ fn compared(homes: Homes, to: u8, op: MicroOp, size: Size, a: Arg, b: Arg) -> Op
 fn is_short_constant(to: u8, op: MicroOp, size: Size, a: Arg) -> bool
     ensures { result ≡ is_short_constant to op size a }
 {
-    to < HOMES && is_copying(op, size) && matches!(a, Arg::Const(value) if value < SHORT)
+    to < VALUES && is_copying(op, size) && matches!(a, Arg::Const(value) if value < SHORT)
 }
 
 /// Whether an argument stands exactly where it is read.

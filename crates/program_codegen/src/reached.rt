@@ -6,7 +6,7 @@ ghost use Rattle.program_codegen.specs.Homes.{AreHomes, stands, settled, is_exte
 ghost use Rattle.program_codegen.specs.Programs.{IsRanged, HasWords};
 ghost use Rattle.program_codegen.specs.Words.{holder, plain, marked, copy, probing, write_by};
 
-use crate::homes::{HOMES, Homes, home_of, is_shared, push_all_waiting, with_home};
+use crate::homes::{Homes, VALUES, home_of, is_shared, push_all_waiting, with_home};
 use crate::lines::{Line, copy, holder, marked, plain, push_words};
 use crate::operations::{PROBE, push_two, read_by, write_by};
 use crate::points::{Site, probing};
@@ -44,7 +44,7 @@ fn settled(homes: Homes) -> Homes
 fn is_extended(to: u8, count: u8) -> bool
     ensures { result ≡ is_extended to count }
 {
-    count == LONGWORD && to < HOMES
+    count == LONGWORD && to < VALUES
 }
 
 fn read_home(to: u8, count: u8) -> Option<u8>

@@ -4,7 +4,7 @@ ghost use Rattle.program_codegen.specs.Words.{plain};
 ghost use Rattle.program_codegen.specs.Homes.{bit_register, bit_test, code_test, byte_test, test_of, choice_lines, may_test, tested_exit, needed_words, tested_words, next_exit, tested_at};
 ghost use Rattle.program_codegen.specs.Programs.{IsRanged, RangedToLeave};
 
-use crate::direct::{are_short_rules, exit_of};
+use crate::direct::{are_left, are_short_rules, exit_of};
 use crate::homes::{Homes, home_of, is_direct, made, push_waiting};
 use crate::leaving::may_trap;
 use crate::lines::{Line, holder, plain, push_exit, push_words};
@@ -129,6 +129,7 @@ fn may_test(
         && codes.is_empty()
         && !may_trap(site)
         && are_short_rules(site.behind)
+        && are_left(site.sources, homes)
 }
 
 fn next_exit(behind: &[Micro]) -> Option<Exit>
