@@ -3,6 +3,8 @@ use Rattle.std.proofs.Common.{◌≡◌, refl, sym, ap, ◌∙◌, List, [], ◌
 use Rattle.std.proofs.lemmas.Option.{same_Some}
 use Rattle.std.specs.Prelude.{◌==◌, unwrap_or, if◌then◌else◌}
 use Rattle.alpha_encode.specs.declared.instr.AlphaInstr.{AlphaInstr}
+use Rattle.alpha_encode.specs.declared.instr.BranchOp.{BranchOp}
+use Rattle.alpha_encode.specs.declared.instr.BranchOp.TheVariants.{Beq}
 use Rattle.exception_records.specs.declared.points.Point.{Point}
 use Rattle.exception_records.specs.declared.rules.CodeRule.{CodeRule}
 use Rattle.exception_records.specs.declared.rules.CodeRule.TheVariants as code_rules
@@ -15,7 +17,7 @@ use Rattle.byte_sequences.specs.Words.{locked_code}
 use Rattle.compute_sequences.specs.Words.{compute_code}
 use Rattle.program_codegen.specs.declared.lines.Line.{Line}
 use Rattle.program_codegen.specs.declared.points.Site.{Site}
-use Rattle.program_codegen.specs.Words.{block_of, code_copied, departing, serving, holder, lines_of, may_trap, overflow_lines, overflow_made, plain, point_of, program_lines, tested_lines, trap_lines, with_first, read_by, write_by}
+use Rattle.program_codegen.specs.Words.{block_of, code_copied, departing, serving, holder, lines_of, may_trap, overflow_made, plain, point_of, program_lines, tested_lines, trap_lines, with_first, read_by, write_by, departing_by, overflow_by, trap_by}
 use Rattle.program_codegen.specs.Promises.{BeginsBy}
 
 module _ (site : Site) where
@@ -32,28 +34,28 @@ module _ (site : Site) where
   row [] = tt
   row (word ∷ words) = refl
 
-  pub trap : (exit : Exit) → Starts (trap_lines site exit)
-  trap exit = by (may_trap site)
+  pub trap : (op : BranchOp) (exit : Exit) → Starts (trap_by op site exit)
+  trap op exit = by (may_trap site)
     where
-      tested : (rule : CodeRule) → Starts (tested_lines rule (overflow_made rule) (overflow_lines site exit))
+      tested : (rule : CodeRule) → Starts (tested_lines rule (overflow_made rule) (overflow_by op site exit))
       tested code_rules.Ready = refl
       tested rule = refl
 
-      by : (b : Bool) → Starts (if b then tested_lines site.behind.v (overflow_made site.behind.v) (overflow_lines site exit) else [])
+      by : (b : Bool) → Starts (if b then tested_lines site.behind.v (overflow_made site.behind.v) (overflow_by op site exit) else [])
       by true = tested site.behind.v
       by false = tt
 
-  pub depart : (exit : Exit) → Starts (departing site exit)
-  depart Next = refl
-  depart (Fixed address) = refl
-  depart (Computed temp) = refl
-  depart (Choice when taken other) = refl
-  depart (Service temp) = by (temp == 0)
+  pub depart : (op : BranchOp) (exit : Exit) → Starts (departing_by op site exit)
+  depart op Next = refl
+  depart op (Fixed address) = refl
+  depart op (Computed temp) = refl
+  depart op (Choice when taken other) = refl
+  depart op (Service temp) = by (temp == 0)
     where
       by : (b : Bool) → Starts (code_copied b temp ++ serving site)
       by true = refl
       by false = refl
-  depart Breakpoint = refl
+  depart op Breakpoint = refl
 
   operation_starts : (codes : List AlphaInstr) (operation : Micro) (program : List Micro) → Starts (lines_of site codes operation program)
   operation_starts codes (Compute to op size a b) program = by (is_left_out site.sources (Compute to op size a b) program)
@@ -70,7 +72,7 @@ module _ (site : Site) where
   operation_starts codes (Codes n z v c) program = tt
   operation_starts codes (SetPsw source) program = refl
   operation_starts codes (Leave exit) program =
-      before (map plain codes) (trap_lines site exit ++ departing site exit) (row codes) (before (trap_lines site exit) (departing site exit) (trap exit) (depart exit))
+      before (map plain codes) (trap_lines site exit ++ departing site exit) (row codes) (before (trap_lines site exit) (departing site exit) (trap Beq exit) (depart Beq exit))
 
   pub program_starts : (codes : List AlphaInstr) (program : List Micro) → Starts (program_lines site codes program)
   program_starts codes [] = tt

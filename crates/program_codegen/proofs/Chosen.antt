@@ -2,7 +2,6 @@
 use Rattle.std.proofs.Common.{◌≡◌, ℕ, ◌+◌, ◌^◌, ◌<◌, ◌≤◌, refl, subst, arith, List, [], ◌∷◌, ◌++◌, length, map, Option, Some, None, Bool, true, false, inl, inr}
 use Rattle.std.specs.Prelude.{◌⊎◌, ◌==◌, All, option_map, option_and_then, unwrap_or, if◌then◌else◌}
 use Rattle.std.specs.List.{list_all}
-use Rattle.std.proofs.lemmas.List.Elements.{All-nil}
 use Rattle.vax_form.specs.Ranges.{IsInRange}
 use Rattle.alpha_encode.specs.Words.{IsEncodable}
 use Rattle.alpha_encode.specs.declared.instr.AlphaInstr.{AlphaInstr}
@@ -27,10 +26,10 @@ use Rattle.program_codegen.specs.declared.homes.Homes.{Homes}
 use Rattle.program_codegen.specs.declared.lines.Line.{Line}
 use Rattle.program_codegen.specs.declared.points.Site.{Site}
 use Rattle.program_codegen.specs.Blocks.{block_lines, chosen_lines}
-use Rattle.program_codegen.specs.Homes.{choice_lines, direct_end, direct_lines, direct_step, end_at, end_words, home_of, needed_words, next_exit, no_homes, tested_at, tested_exit, reach, all_waiting, waiting_words, tested_words}
+use Rattle.program_codegen.specs.Homes.{choice_lines, choice_of, direct_end, direct_lines, direct_step, end_at, end_words, home_of, next_exit, no_homes, tested_at, tested_exit, reach, all_waiting, tested_words}
 use Rattle.program_codegen.specs.Programs.{AllHaveWords, KeepsTogether, LeavesReady, ReadsReady}
 use Rattle.program_codegen.specs.Promises.{BeginsBy}
-use Rattle.program_codegen.specs.Words.{block_of, departing, plain, program_lines, trap_lines}
+use Rattle.program_codegen.specs.Words.{block_of, departing_by, plain, program_lines, trap_by}
 use Rattle.program_codegen.proofs.Beginning.{Starts, before, depart, lines_begin, program_starts, row, trap}
 use Rattle.program_codegen.proofs.Following.{follows, lines_some}
 use Rattle.program_codegen.proofs.Fronts.{Shape}
@@ -50,10 +49,10 @@ module _ (site : Site) (codes : List AlphaInstr) where
   end_starts operation program homes lines e =
       let c = chained (Option (ℕ × ℕ) × Exit) (List Line) (λ (end : Option (ℕ × ℕ) × Exit). direct_end site codes homes end.0 end.1) (end_at site.sources operation program) lines e in
       let x = ended site codes homes c.found.0 c.found.1 lines c.onward in
-      let rest = trap_lines site c.found.1 ++ departing site c.found.1 in
+      let choice = choice_of homes c.found.1 in
       subst (Starts site) x.whole
-      (before site (map plain (end_words homes c.found.0 c.found.1 x.words)) (trap_lines site c.found.1 ++ departing site c.found.1) (row site (end_words homes c.found.0 c.found.1 x.words))
-      (before site (trap_lines site c.found.1) (departing site c.found.1) (trap site c.found.1) (depart site c.found.1)))
+      (before site (map plain (end_words homes c.found.0 choice.1 x.words)) (trap_by choice.0 site choice.1 ++ departing_by choice.0 site choice.1) (row site (end_words homes c.found.0 choice.1 x.words))
+      (before site (trap_by choice.0 site choice.1) (departing_by choice.0 site choice.1) (trap site choice.0 choice.1) (depart site choice.0 choice.1)))
 
   reach_starts : (operation : Micro) (program : List Micro) (homes : Homes) (lines : List Line) → ((homes' : Homes) (rest : List Line) → direct_lines site codes homes' program ≡ Some rest → Starts site rest)
       → option_and_then (λ (step : Homes × List Line). option_map (λ (lines : List Line). step.1 ++ lines) (direct_lines site codes step.0 program)) (reach site homes operation) ≡ Some lines → Starts site lines

@@ -6,6 +6,8 @@ use Rattle.vax_form.specs.State.{with_pc}
 use Rattle.vax_form.specs.Tree.{Finish, Trap, Fault}
 use Rattle.vax_form.specs.declared.state.Exception.TheVariants as exceptions
 use Rattle.alpha_encode.specs.declared.instr.AlphaInstr.{AlphaInstr}
+use Rattle.alpha_encode.specs.declared.instr.BranchOp.{BranchOp}
+use Rattle.alpha_encode.specs.declared.instr.BranchOp.TheVariants.{Beq}
 use Rattle.alpha_meaning.specs.Loops.{effects}
 use Rattle.alpha_meaning.specs.State.{Regs, at_place}
 use Rattle.micro_ops.specs.declared.known.Known.{Known}
@@ -18,7 +20,7 @@ use Rattle.block_law.specs.Placements.{Placement}
 use Rattle.block_law.proofs.Rules.{Always, roomy}
 use Rattle.program_codegen.specs.declared.lines.Line.{Line}
 use Rattle.program_codegen.specs.declared.points.Site.{Site}
-use Rattle.program_codegen.specs.Words.{plain, code_copied, serving, trap_lines, departing, leaving, may_overflow}
+use Rattle.program_codegen.specs.Words.{plain, code_copied, serving, trap_lines, departing, leaving, may_overflow, departing_by}
 use Rattle.program_codegen.specs.Programs.{IsExit}
 use Rattle.program_codegen.proofs.Numbers.{all_three}
 use Rattle.program_codegen.proofs.Walk.{Within, row_length}
@@ -45,20 +47,21 @@ module _ (p : Placement) (site : Site) (codes : List AlphaInstr) (setting : Sett
         psw_fits = parts.1;
         overflowed = h.overflowed;
         no_overflow = h.no_overflow;
+        temps = standing.temps;
         signs = subst (λ psw. SignsComeFrom site.sources.nzv p.begun.psw psw standing.temps) left come.signs;
       }
 
-  pub departs_some : (exit : Exit) → 1 ≤ length (departing site exit)
-  departs_some exits.Next = lit≤ tt
-  departs_some (exits.Fixed address) = lit≤ tt
-  departs_some (exits.Computed temp) = lit≤ tt
-  departs_some (exits.Choice when taken other) = lit≤ tt
-  departs_some (exits.Service temp) = by (temp == 0)
+  pub departs_some : (op : BranchOp) (exit : Exit) → 1 ≤ length (departing_by op site exit)
+  departs_some op exits.Next = lit≤ tt
+  departs_some op (exits.Fixed address) = lit≤ tt
+  departs_some op (exits.Computed temp) = lit≤ tt
+  departs_some op (exits.Choice when taken other) = lit≤ tt
+  departs_some op (exits.Service temp) = by (temp == 0)
     where
       by : (b : Bool) → 1 ≤ length (code_copied b temp ++ serving site)
       by true = lit≤ tt
       by false = lit≤ tt
-  departs_some exits.Breakpoint = lit≤ tt
+  departs_some op exits.Breakpoint = lit≤ tt
 
   -- the codes, the trap, and then the exit
   leaves_by_exit : (exit : Exit) (onward : Departure) (known : Known) (standing : Standing) (regs : Regs) (pc : ℕ)
@@ -67,13 +70,13 @@ module _ (p : Placement) (site : Site) (codes : List AlphaInstr) (setting : Sett
       → ((g : Regs) (pc' : ℕ) → Coded p site known standing g → Within p site.behind pc' (departing site exit) → Always p None (length (departing site exit)) (at_place g pc') (departed p.serve onward))
       → Always p None (length (leaving site codes exit)) (at_place regs pc) (departed p.serve (trap_or site standing exit onward))
   leaves_by_exit exit onward known standing regs pc w is holds fits h come left behind =
-      let some = departs_some exit in
+      let some = departs_some Beq exit in
       let first = row_length p site.behind codes (trap_lines site exit ++ departing site exit) in
       let rest = length-append (trap_lines site exit) (departing site exit) in
       let whole = same_psw standing _ onward (traps standing) left in
       roomy p None (length codes + (length (trap_lines site exit) + length (departing site exit))) (length (leaving site codes exit)) (at_place regs pc) (departed p.serve (trap_or site standing exit onward)) (omega arith)
       (codes_run p site codes setting (length (trap_lines site exit) + length (departing site exit)) pc (trap_lines site exit ++ departing site exit) regs (departed p.serve (trap_or site standing exit onward)) w (omega arith)
-      (λ w'. traps_first p site known standing setting.after p.begun.psw setting.written (overflows known standing regs (trap_or site standing exit onward) fits whole come h) setting.narrow
+      (λ w'. traps_first p site known standing setting.after Beq refl p.begun.psw setting.written (overflows known standing regs (trap_or site standing exit onward) fits whole come h) setting.narrow
       (length (departing site exit)) (pc + length codes) exit (departing site exit) (effects codes regs) onward
       (coded p site codes setting known standing regs (trap_or site standing exit onward) fits whole come h) is holds w' some
       (λ g pc' untrapped c w''. behind g pc' c w'')))
@@ -109,7 +112,7 @@ leaving_follows p site codes setting (exits.Computed temp) known standing regs p
     (λ g pc' c w'. looks p site known standing g c pc' temp w' is fits ready)
 leaving_follows p site codes setting (exits.Choice when taken other) known standing regs pc w is fits come ready h agree =
     leaves_by_exit p site codes setting (exits.Choice when taken other) (Ended (Finish (with_pc (if standing.temps when == 0 then other else taken) standing.state))) known standing regs pc w is fits come h agree refl
-    (λ g pc' c w'. chooses p site known standing g c pc' when taken other w' is.0 fits)
+    (λ g pc' c w'. chooses p site known standing g c Beq refl pc' when taken other w' is.0 fits)
 leaving_follows p site codes setting (exits.Service temp) known standing regs pc w is fits come ready h agree =
     let x = all_three (exit_holds known temp) (not known.codes) (not known.psw) fits in
     leaves_by_exit p site codes setting (exits.Service temp) (Serves (standing.temps temp % 2 ^ 16) (with_pc site.after standing.state)) known standing regs pc w is tt come h agree refl

@@ -10,10 +10,12 @@ use Rattle.byte_sequences.proofs.Encoded.{all_encodable}
 use Rattle.alpha_encode.specs.Words.{IsEncodable}
 use Rattle.alpha_encode.specs.declared.instr.AlphaInstr.{AlphaInstr}
 use Rattle.alpha_encode.specs.declared.instr.AlphaInstr.TheVariants.{Memory, Branch, Operate, Jump, Pal}
+use Rattle.alpha_encode.specs.declared.instr.BranchOp.{BranchOp}
 use Rattle.alpha_encode.specs.declared.instr.BranchOp.TheVariants.{Br, Beq}
 use Rattle.alpha_encode.specs.declared.instr.MemoryOp.TheVariants.{Lda}
 use Rattle.alpha_encode.specs.declared.instr.OperateOp.TheVariants.{And}
 use Rattle.alpha_encode.specs.declared.instr.Second.TheVariants.{Literal}
+use Rattle.alpha_meaning.specs.Act.{links}
 use Rattle.alpha_meaning.specs.Loops.{fine}
 use Rattle.exception_records.specs.declared.rules.CodeRule.{CodeRule}
 use Rattle.exception_records.specs.declared.rules.CodeRule.TheVariants as code_rules
@@ -31,7 +33,7 @@ use Rattle.micro_ops.specs.Exits.{exit_addresses}
 use Rattle.program_codegen.specs.declared.lines.Line.{Line}
 use Rattle.program_codegen.specs.declared.points.Site.{Site}
 use Rattle.alpha_encode.specs.Halves.{load_longword}
-use Rattle.program_codegen.specs.Words.{plain, marked, holder, copy, code_copied, serving, point_of, raising, trapping, exit_lines, overflow_made, overflow_register, load_pc, overflow_lines, enabled_lines, ready_lines, made_lines, tested_lines, may_overflow, may_trap, trap_lines, departing, leaving, words_of}
+use Rattle.program_codegen.specs.Words.{plain, marked, holder, copy, code_copied, serving, point_of, raising, trapping, exit_lines, overflow_made, overflow_register, enabled_lines, ready_lines, made_lines, tested_lines, may_overflow, may_trap, trap_lines, departing, leaving, words_of, load_by, overflow_by, trap_by, departing_by}
 use Rattle.program_codegen.specs.Programs.{IsExit, KeepsTogether}
 use Rattle.program_codegen.proofs.Numbers.{all_four}
 use Rattle.program_codegen.proofs.Walk.{plain_length}
@@ -69,33 +71,33 @@ pub below_codes : (n r : ℕ) → n < 16 → 16 ≤ r → (n == r) ≡ false
 below_codes n r lt le = grind (arith, nat_tests)
 
 -- ---- the trap
-pc_encodable : (after : ℕ) (exit : Exit) → IsExit exit → All IsEncodable (load_pc after exit)
-pc_encodable after exits.Next is = load_encodable 26 after (lit< tt)
-pc_encodable after (exits.Fixed address) is = load_encodable 26 address (lit< tt)
-pc_encodable after (exits.Computed temp) is = one_word (copy (holder temp) 26) (omega arith, lit< tt, lit< tt)
-pc_encodable after (exits.Choice when taken other) is =
+pc_encodable : (op : BranchOp) (after : ℕ) (exit : Exit) → IsExit exit → All IsEncodable (load_by op after exit)
+pc_encodable op after exits.Next is = load_encodable 26 after (lit< tt)
+pc_encodable op after (exits.Fixed address) is = load_encodable 26 address (lit< tt)
+pc_encodable op after (exits.Computed temp) is = one_word (copy (holder temp) 26) (omega arith, lit< tt, lit< tt)
+pc_encodable op after (exits.Choice when taken other) is =
     let when_fits : 21 + when < 32 = (let lt = is.0 in omega arith) in
     let first = load_each 26 taken (lit< tt) in
-    all_encodable (load_pc after (exits.Choice when taken other))
-    (branch_encodable Beq (21 + when) 3 when_fits (lit< tt), (first.0, (first.1.0, (branch_encodable Br 31 2 (lit< tt) (lit< tt), load_each 26 other (lit< tt)))))
-pc_encodable after (exits.Service temp) is = load_encodable 26 after (lit< tt)
-pc_encodable after exits.Breakpoint is = load_encodable 26 after (lit< tt)
+    all_encodable (load_by op after (exits.Choice when taken other))
+    (branch_encodable op (21 + when) 3 when_fits (lit< tt), (first.0, (first.1.0, (branch_encodable Br 31 2 (lit< tt) (lit< tt), load_each 26 other (lit< tt)))))
+pc_encodable op after (exits.Service temp) is = load_encodable 26 after (lit< tt)
+pc_encodable op after exits.Breakpoint is = load_encodable 26 after (lit< tt)
 
-pc_silent : (after : ℕ) (exit : Exit) → list_all is_silent (load_pc after exit) ≡ true
-pc_silent after exits.Next = refl
-pc_silent after (exits.Fixed address) = refl
-pc_silent after (exits.Computed temp) = refl
-pc_silent after (exits.Choice when taken other) = refl
-pc_silent after (exits.Service temp) = refl
-pc_silent after exits.Breakpoint = refl
+pc_silent : (op : BranchOp) (after : ℕ) (exit : Exit) → links op ≡ false → list_all is_silent (load_by op after exit) ≡ true
+pc_silent op after exits.Next unlinked = refl
+pc_silent op after (exits.Fixed address) unlinked = refl
+pc_silent op after (exits.Computed temp) unlinked = refl
+pc_silent op after (exits.Choice when taken other) unlinked = rw unlinked refl
+pc_silent op after (exits.Service temp) unlinked = refl
+pc_silent op after exits.Breakpoint unlinked = refl
 
-pub pc_short : (after : ℕ) (exit : Exit) → length (load_pc after exit) ≤ 6
-pc_short after exits.Next = lit≤ tt
-pc_short after (exits.Fixed address) = lit≤ tt
-pc_short after (exits.Computed temp) = lit≤ tt
-pc_short after (exits.Choice when taken other) = lit≤ tt
-pc_short after (exits.Service temp) = lit≤ tt
-pc_short after exits.Breakpoint = lit≤ tt
+pub pc_short : (op : BranchOp) (after : ℕ) (exit : Exit) → length (load_by op after exit) ≤ 6
+pc_short op after exits.Next = lit≤ tt
+pc_short op after (exits.Fixed address) = lit≤ tt
+pc_short op after (exits.Computed temp) = lit≤ tt
+pc_short op after (exits.Choice when taken other) = lit≤ tt
+pc_short op after (exits.Service temp) = lit≤ tt
+pc_short op after exits.Breakpoint = lit≤ tt
 
 abbrev status_word : AlphaInstr
 status_word = Operate And 20 (Literal 32) 27
@@ -114,9 +116,9 @@ module _ (site : Site) where
     few = lit≤ tt;
   }
 
-  overflow_silent : (exit : Exit) → IsExit exit → Silent site 8 (overflow_lines site exit)
-  overflow_silent exit is =
-      silent_append site 6 2 (map plain (load_pc site.after exit)) _ (silent_row site 6 (load_pc site.after exit) (pc_encodable site.after exit is) (pc_silent site.after exit) (pc_short site.after exit))
+  overflow_silent : (op : BranchOp) (exit : Exit) → links op ≡ false → IsExit exit → Silent site 8 (overflow_by op site exit)
+  overflow_silent op exit unlinked is =
+      silent_append site 6 2 (map plain (load_by op site.after exit)) _ (silent_row site 6 (load_by op site.after exit) (pc_encodable op site.after exit is) (pc_silent op site.after exit unlinked) (pc_short op site.after exit))
       (silent_append site 1 1 (plain (Memory Lda 21 31 (pos 1)) ∷ []) (marked (Pal 0x84) (trapping site) ∷ []) kind_silent trap_silent)
 
   overflow_register_fits : (rule : CodeRule) → overflow_register rule < 32
@@ -149,11 +151,11 @@ module _ (site : Site) where
   tested_silent code_rules.Ready trap silent = ready_silent trap silent
   tested_silent rule trap silent = made_lines_silent rule trap silent
 
-  pub traps_silent : (exit : Exit) → IsExit exit → Silent site 20 (trap_lines site exit)
-  traps_silent exit is = by (may_trap site)
+  pub traps_silent : (op : BranchOp) (exit : Exit) → links op ≡ false → IsExit exit → Silent site 20 (trap_by op site exit)
+  traps_silent op exit unlinked is = by (may_trap site)
     where
-      by : (b : Bool) → Silent site 20 (if b then tested_lines site.behind.v (overflow_made site.behind.v) (overflow_lines site exit) else [])
-      by true = tested_silent site.behind.v (overflow_lines site exit) (overflow_silent exit is)
+      by : (b : Bool) → Silent site 20 (if b then tested_lines site.behind.v (overflow_made site.behind.v) (overflow_by op site exit) else [])
+      by true = tested_silent site.behind.v (overflow_by op site exit) (overflow_silent op exit unlinked is)
       by false = record { front = no_front site; quiet = refl; few = lit≤ tt }
 
 -- ---- the exits
@@ -161,18 +163,18 @@ pub exit_spares : (address : ℕ) → SparesCodes (words_of (exit_lines address)
 exit_spares address r low high = let other = above_codes 31 r (lit≤ tt) high in rw other refl
 
 module _ (site : Site) (after_fits : site.after < 2 ^ 32) where
-  pub departing_each : (exit : Exit) → IsExit exit → EachFits site 0 (departing site exit)
-  departing_each exits.Next is = exit_each site site.after after_fits
-  departing_each (exits.Fixed address) is = exit_each site address is
-  departing_each (exits.Computed temp) is = (
+  pub departing_each : (op : BranchOp) (exit : Exit) → IsExit exit → EachFits site 0 (departing_by op site exit)
+  departing_each op exits.Next is = exit_each site site.after after_fits
+  departing_each op (exits.Fixed address) is = exit_each site address is
+  departing_each op (exits.Computed temp) is = (
     plain_fits site (copy (holder temp) 26) (omega arith, lit< tt, lit< tt) refl,
     (record { encodable = (lit≤ tt, lit≤ tt); translated = refl; its_point = refl; whole = tt; address = tt; quiet = tt }, refl),
   )
-  departing_each (exits.Choice when taken other) is = (
-    plain_fits site (Branch Beq (holder when) (pos 3)) (branch_encodable Beq (21 + when) 3 (let lt = is.0 in omega arith) (lit< tt)) refl,
+  departing_each op (exits.Choice when taken other) is = (
+    plain_fits site (Branch op (holder when) (pos 3)) (branch_encodable op (21 + when) 3 (let lt = is.0 in omega arith) (lit< tt)) refl,
     each_append site 0 (exit_lines taken) (exit_lines other) (exit_each site taken is.1) (exit_each site other is.2),
   )
-  departing_each (exits.Service temp) is = by (temp == 0)
+  departing_each op (exits.Service temp) is = by (temp == 0)
     where
       served : EachFits site 0 (serving site)
       served =
@@ -182,43 +184,43 @@ module _ (site : Site) (after_fits : site.after < 2 ^ 32) where
       by : (b : Bool) → EachFits site 0 (code_copied b temp ++ serving site)
       by true = served
       by false = (plain_fits site (copy (holder temp) 21) (omega arith, lit< tt, lit< tt) refl, served)
-  departing_each exits.Breakpoint is = (call_fits site 0x83 (raising site 0x2C) (lit≤ tt) (lit≤ tt) refl refl refl refl, refl)
+  departing_each op exits.Breakpoint is = (call_fits site 0x83 (raising site 0x2C) (lit≤ tt) (lit≤ tt) refl refl refl refl, refl)
 
-  pub departing_goes : (exit : Exit) → targets (departing site exit) ≡ exit_addresses site.after exit
-  departing_goes exits.Next = refl
-  departing_goes (exits.Fixed address) = refl
-  departing_goes (exits.Computed temp) = refl
-  departing_goes (exits.Choice when taken other) = refl
-  departing_goes (exits.Service temp) = by (temp == 0)
+  pub departing_goes : (op : BranchOp) (exit : Exit) → targets (departing_by op site exit) ≡ exit_addresses site.after exit
+  departing_goes op exits.Next = refl
+  departing_goes op (exits.Fixed address) = refl
+  departing_goes op (exits.Computed temp) = refl
+  departing_goes op (exits.Choice when taken other) = refl
+  departing_goes op (exits.Service temp) = by (temp == 0)
     where
       by : (b : Bool) → targets (code_copied b temp ++ serving site) ≡ site.after ∷ []
       by true = refl
       by false = refl
-  departing_goes exits.Breakpoint = refl
+  departing_goes op exits.Breakpoint = refl
 
-  pub departing_spares : (exit : Exit) → SparesCodes (words_of (departing site exit))
-  departing_spares exits.Next r low high = exit_spares site.after r low high
-  departing_spares (exits.Fixed address) r low high = exit_spares address r low high
-  departing_spares (exits.Computed temp) r low high = rw (above_codes 26 r (lit≤ tt) high, above_codes 31 r (lit≤ tt) high) refl
-  departing_spares (exits.Choice when taken other) r low high = rw (above_codes 31 r (lit≤ tt) high) refl
-  departing_spares (exits.Service temp) r low high = by (temp == 0)
+  pub departing_spares : (op : BranchOp) (exit : Exit) → links op ≡ false → SparesCodes (words_of (departing_by op site exit))
+  departing_spares op exits.Next unlinked r low high = exit_spares site.after r low high
+  departing_spares op (exits.Fixed address) unlinked r low high = exit_spares address r low high
+  departing_spares op (exits.Computed temp) unlinked r low high = rw (above_codes 26 r (lit≤ tt) high, above_codes 31 r (lit≤ tt) high) refl
+  departing_spares op (exits.Choice when taken other) unlinked r low high = rw (unlinked, above_codes 31 r (lit≤ tt) high) refl
+  departing_spares op (exits.Service temp) unlinked r low high = by (temp == 0)
     where
       by : (b : Bool) → writes_register r (words_of (code_copied b temp ++ serving site)) ≡ false
       by true = rw (above_codes 26 r (lit≤ tt) high, below_codes 0 r (lit< tt) low, above_codes 31 r (lit≤ tt) high) refl
       by false = rw (above_codes 21 r (lit≤ tt) high, above_codes 26 r (lit≤ tt) high, below_codes 0 r (lit< tt) low, above_codes 31 r (lit≤ tt) high) refl
-  departing_spares exits.Breakpoint r low high = rw (above_codes 31 r (lit≤ tt) high) refl
+  departing_spares op exits.Breakpoint unlinked r low high = rw (above_codes 31 r (lit≤ tt) high) refl
 
-  pub departing_short : (exit : Exit) → length (departing site exit) ≤ 7
-  departing_short exits.Next = lit≤ tt
-  departing_short (exits.Fixed address) = lit≤ tt
-  departing_short (exits.Computed temp) = lit≤ tt
-  departing_short (exits.Choice when taken other) = lit≤ tt
-  departing_short (exits.Service temp) = by (temp == 0)
+  pub departing_short : (op : BranchOp) (exit : Exit) → length (departing_by op site exit) ≤ 7
+  departing_short op exits.Next = lit≤ tt
+  departing_short op (exits.Fixed address) = lit≤ tt
+  departing_short op (exits.Computed temp) = lit≤ tt
+  departing_short op (exits.Choice when taken other) = lit≤ tt
+  departing_short op (exits.Service temp) = by (temp == 0)
     where
       by : (b : Bool) → length (code_copied b temp ++ serving site) ≤ 7
       by true = lit≤ tt
       by false = lit≤ tt
-  departing_short exits.Breakpoint = lit≤ tt
+  departing_short op exits.Breakpoint = lit≤ tt
 
 -- ---- the words that leave the codes
 pub codes_local : (may : ℕ → Bool) (i : AlphaInstr) → fine may i ≡ true → is_local i ≡ true
@@ -294,7 +296,7 @@ module _ (site : Site) (codes : List AlphaInstr) (after_fits : site.after < 2 ^ 
   quiet_leaving : (exit : Exit) → IsExit exit → list_any may_fault (words_of (departing site exit)) ≡ false → list_any may_fault (words_of (leaving site codes exit)) ≡ false
   quiet_leaving exit is quiet =
       any_neither may_fault (map plain codes) (rest_of exit) (ap (list_any may_fault) (row_words_are codes) ∙ codes_quiet (may_be_written site.sources) codes only)
-      (any_neither may_fault (trap_lines site exit) (departing site exit) (traps_silent site exit is).quiet quiet)
+      (any_neither may_fault (trap_lines site exit) (departing site exit) (traps_silent site Beq exit refl is).quiet quiet)
 
   breaks : (known : Known) → known.codes ≡ false → known.psw ≡ false → sources_fit site.sources known ≡ true → keeps_until may_fault (words_of (leaving site codes exits.Breakpoint)) ≡ true
   breaks known no_codes no_psw fits =
@@ -330,24 +332,24 @@ module _ (site : Site) (codes : List AlphaInstr) (after_fits : site.after < 2 ^ 
   pub leave_shape : (exit : Exit) (known : Known) → IsExit exit → exit_fits known exit ≡ true → sources_fit site.sources known ≡ true → (known.changed ≡ false → (known.codes ≡ false) × (known.psw ≡ false))
       → Shape site known.changed codes (exit_addresses site.after exit) 59 (leaving site codes exit)
   leave_shape exit known is fits come quiet =
-      let trap = traps_silent site exit is in
+      let trap = traps_silent site Beq exit refl is in
       let a = length-append (map plain codes) (rest_of exit) in
       let b = length-append (trap_lines site exit) (departing site exit) in
       let c = plain_length codes in
       let d = trap.few in
-      let e = departing_short site after_fits exit in
+      let e = departing_short site after_fits Beq exit in
       record {
         each = each_append site 0 (map plain codes) (rest_of exit) (row_fits site codes encodable (list_all_of (fine (may_be_written site.sources)) is_local (codes_local (may_be_written site.sources)) codes only))
-            (each_append site 0 (trap_lines site exit) (departing site exit) trap.front.each (departing_each site after_fits exit is));
+            (each_append site 0 (trap_lines site exit) (departing site exit) trap.front.each (departing_each site after_fits Beq exit is));
         kept = leaving_kept exit known is fits come quiet;
         goes =
             targets_append (map plain codes) (rest_of exit)
             ∙ (ap (λ xs. xs ++ targets (rest_of exit)) (row_targets codes)
-            ∙ (targets_append (trap_lines site exit) (departing site exit) ∙ (ap (λ xs. xs ++ targets (departing site exit)) trap.front.stays ∙ departing_goes site after_fits exit)));
+            ∙ (targets_append (trap_lines site exit) (departing site exit) ∙ (ap (λ xs. xs ++ targets (departing site exit)) trap.front.stays ∙ departing_goes site after_fits Beq exit)));
         writes = λ r low high.
             ap (writes_register r) (words_append (map plain codes) (rest_of exit))
             ∙ (list_any-append (λ i. register_written i == r) (words_of (map plain codes)) (words_of (rest_of exit))
             ∙ (ap (λ xs. writes_register r xs || writes_register r (words_of (rest_of exit))) (row_words_are codes)
-            ∙ (ap (λ b. writes_register r codes || b) (spares_append (trap_lines site exit) (departing site exit) trap.front.spares (departing_spares site after_fits exit) r low high) ∙ or_nothing (writes_register r codes))));
+            ∙ (ap (λ b. writes_register r codes || b) (spares_append (trap_lines site exit) (departing site exit) trap.front.spares (departing_spares site after_fits Beq exit refl) r low high) ∙ or_nothing (writes_register r codes))));
         short = omega arith;
       }

@@ -13,8 +13,8 @@ use Rattle.vax_form.specs.declared.state.Exception.TheVariants.{Breakpoint}
 use Rattle.vax_form.specs.declared.state.VaxState.{VaxState}
 use Rattle.alpha_encode.specs.Halves.{high_half, low_half, load_high, load_low, load_longword}
 use Rattle.alpha_encode.specs.declared.instr.AlphaInstr.TheVariants.{Branch, Pal}
-use Rattle.alpha_encode.specs.declared.instr.BranchOp.TheVariants.{Beq}
-use Rattle.alpha_meaning.specs.Act.{target_of}
+use Rattle.alpha_encode.specs.declared.instr.BranchOp.{BranchOp}
+use Rattle.alpha_meaning.specs.Act.{links, taken, target_of}
 use Rattle.alpha_meaning.specs.Pieces.{Only, Plain}
 use Rattle.alpha_meaning.specs.Result.{plus, times}
 use Rattle.alpha_meaning.specs.State.{Regs, put, at_place}
@@ -37,7 +37,7 @@ use Rattle.block_law.proofs.Rounds.{fits_spare}
 use Rattle.block_law.proofs.Rules.{Always, roomy, goes, passes, skips, looks_up, serves, raises}
 use Rattle.program_codegen.specs.declared.lines.Line.{Line}
 use Rattle.program_codegen.specs.declared.points.Site.{Site}
-use Rattle.program_codegen.specs.Words.{plain, marked, holder, copy, code_copied, serving, point_of, raising, exit_lines, departing}
+use Rattle.program_codegen.specs.Words.{plain, marked, holder, copy, code_copied, serving, point_of, raising, exit_lines, departing, departing_by}
 use Rattle.program_codegen.specs.Programs.{LeavesReady}
 use Rattle.program_codegen.proofs.Numbers.{all_three, copied}
 use Rattle.program_codegen.proofs.Walk.{Within, next, stands, is_inside, exit_leads, behind_exit}
@@ -82,28 +82,28 @@ module _ (p : Placement) (site : Site) (known : Known) (standing : Standing) (re
       (exit_leads p site.behind pc address rest w n spare round regs (fits_spare p.bonus None 3 spare round fits) c.form)
 
   -- ---- one of two
-  pub chooses : (pc when taken other : ℕ) → Within p site.behind pc (departing site (exits.Choice when taken other)) → when < 6 → exit_holds known when ≡ true
-      → Always p None 7 (at_place regs pc) (Ends (Finish (with_pc (if standing.temps when == 0 then other else taken) standing.state)))
-  chooses pc when taken other w lt fits = by (standing.temps when == 0) refl
+  pub chooses : (op : BranchOp) → links op ≡ false → (pc when chosen other : ℕ) → Within p site.behind pc (departing_by op site (exits.Choice when chosen other)) → when < 6 → exit_holds known when ≡ true
+      → Always p None 7 (at_place regs pc) (Ends (Finish (with_pc (if taken op (standing.temps when) then other else chosen) standing.state)))
+  chooses op unlinked pc when chosen other w lt fits = by (taken op (standing.temps when)) refl
     where
-      by : (b : Bool) → (standing.temps when == 0) ≡ b → Always p None 7 (at_place regs pc) (Ends (Finish (with_pc (if b then other else taken) standing.state)))
+      by : (b : Bool) → taken op (standing.temps when) ≡ b → Always p None 7 (at_place regs pc) (Ends (Finish (with_pc (if b then other else chosen) standing.state)))
       by true e =
           let end = w.high in
           let near = w.near in
           let value = exit_value p site known standing regs when lt fits c in
           let jump : target_of pc (pos 3) ≡ pc + 1 + 1 + 1 + 1 = omega arith in
-          let w1 = next p site.behind pc (Branch Beq (holder when) (pos 3)) None (exit_lines taken ++ exit_lines other) w in
-          let w2 = behind_exit p site.behind (pc + 1) taken (exit_lines other) w1 in
+          let w1 = next p site.behind pc (Branch op (holder when) (pos 3)) None (exit_lines chosen ++ exit_lines other) w in
+          let w2 = behind_exit p site.behind (pc + 1) chosen (exit_lines other) w1 in
           roomy p None (3 + 1) 7 (at_place regs pc) _ (lit≤ tt)
-          (skips p None 3 (at_place regs pc) Beq (holder when) (pos 3) (pc + 1 + 1 + 1 + 1) _ (stands p site.behind pc (Branch Beq (holder when) (pos 3)) None (exit_lines taken ++ exit_lines other) w) refl (ap (λ n. n == 0) value ∙ e) jump (omega arith)
+          (skips p None 3 (at_place regs pc) op (holder when) (pos 3) (pc + 1 + 1 + 1 + 1) _ (stands p site.behind pc (Branch op (holder when) (pos 3)) None (exit_lines chosen ++ exit_lines other) w) unlinked (ap (taken op) value ∙ e) jump (omega arith)
           (is_inside p site.behind pc (pc + 1 + 1 + 1 + 1) _ w (omega arith) (omega arith)) (exits_to (pc + 1 + 1 + 1 + 1) other [] w2))
       by false e =
           let end = w.high in
           let value = exit_value p site known standing regs when lt fits c in
-          let w1 = next p site.behind pc (Branch Beq (holder when) (pos 3)) None (exit_lines taken ++ exit_lines other) w in
+          let w1 = next p site.behind pc (Branch op (holder when) (pos 3)) None (exit_lines chosen ++ exit_lines other) w in
           roomy p None (3 + 1) 7 (at_place regs pc) _ (lit≤ tt)
-          (passes p None 3 (at_place regs pc) Beq (holder when) (pos 3) _ (stands p site.behind pc (Branch Beq (holder when) (pos 3)) None (exit_lines taken ++ exit_lines other) w) (ap (λ n. n == 0) value ∙ e)
-          (is_inside p site.behind pc (pc + 1) _ w (omega arith) (omega arith)) (exits_to (pc + 1) taken (exit_lines other) w1))
+          (passes p None 3 (at_place regs pc) op (holder when) (pos 3) _ (stands p site.behind pc (Branch op (holder when) (pos 3)) None (exit_lines chosen ++ exit_lines other) w) (ap (taken op) value ∙ e)
+          (is_inside p site.behind pc (pc + 1) _ w (omega arith) (omega arith)) (exits_to (pc + 1) chosen (exit_lines other) w1))
 
   -- ---- one that is computed
   pub looks : (pc temp : ℕ) → Within p site.behind pc (departing site (exits.Computed temp)) → temp < 6 → exit_holds known temp ≡ true → LeavesReady site.behind (Leave (exits.Computed temp) ∷ [])

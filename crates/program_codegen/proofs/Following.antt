@@ -14,6 +14,7 @@ use Rattle.vax_form.specs.declared.state.Exception.TheVariants.{ReservedOperand}
 use Rattle.vax_form.specs.declared.state.Reference.{Reference}
 use Rattle.alpha_encode.specs.declared.instr.AlphaInstr.{AlphaInstr}
 use Rattle.alpha_encode.specs.declared.instr.AlphaInstr.TheVariants.{Branch, Operate, Pal}
+use Rattle.alpha_encode.specs.declared.instr.BranchOp.{BranchOp}
 use Rattle.alpha_encode.specs.declared.instr.BranchOp.TheVariants.{Beq}
 use Rattle.alpha_encode.specs.declared.instr.OperateOp.TheVariants as row
 use Rattle.alpha_encode.specs.declared.instr.Second.TheVariants.{Literal}
@@ -44,7 +45,7 @@ use Rattle.block_law.specs.Placements.{Placement}
 use Rattle.block_law.proofs.Rules.{Always, roomy}
 use Rattle.program_codegen.specs.declared.lines.Line.{Line}
 use Rattle.program_codegen.specs.declared.points.Site.{Site}
-use Rattle.program_codegen.specs.Words.{plain, marked, holder, copy, code_copied, serving, probing, raising, leaving, departing, trap_lines, lines_of, program_lines, read_by, write_by}
+use Rattle.program_codegen.specs.Words.{plain, marked, holder, copy, code_copied, serving, probing, raising, leaving, departing, trap_lines, lines_of, program_lines, read_by, write_by, departing_by}
 use Rattle.program_codegen.specs.Programs.{HasWords, IsExit, ReadsReady, LeavesReady, rule_of}
 use Rattle.program_codegen.proofs.Knowing.{walk_fits, nothing_behind, write_changes}
 use Rattle.program_codegen.proofs.Walk.{Within, next, row_rest, row_length}
@@ -67,17 +68,17 @@ pub opened : (sources : CodeSources) (known : Known) (operation : Micro) (progra
     → is_ended (option_and_then (λ behind. walk sources behind program) (step sources known operation)) ≡ true
 opened sources known operation program off e = unless known.ended (option_and_then (λ behind. walk sources behind program) (step sources known operation)) off e
 
-pub departs : (site : Site) (exit : Exit) → 1 ≤ length (departing site exit)
-departs site Next = lit≤ tt
-departs site (Fixed address) = lit≤ tt
-departs site (Computed temp) = lit≤ tt
-departs site (Choice when taken other) = lit≤ tt
-departs site (Service temp) = by (temp == 0)
+pub departs : (op : BranchOp) (site : Site) (exit : Exit) → 1 ≤ length (departing_by op site exit)
+departs op site Next = lit≤ tt
+departs op site (Fixed address) = lit≤ tt
+departs op site (Computed temp) = lit≤ tt
+departs op site (Choice when taken other) = lit≤ tt
+departs op site (Service temp) = by (temp == 0)
   where
     by : (b : Bool) → 1 ≤ length (code_copied b temp ++ serving site)
     by true = lit≤ tt
     by false = lit≤ tt
-departs site Breakpoint = lit≤ tt
+departs op site Breakpoint = lit≤ tt
 
 -- a program that leaves has words
 module _ (site : Site) (codes : List AlphaInstr) where
@@ -116,7 +117,7 @@ module _ (site : Site) (codes : List AlphaInstr) where
       let x = walk_fits (not known.psw && holds known source) (record known { psw = true; changed = true }) (λ behind. walk site.sources behind program) (opened site.sources known (SetPsw source) program off e) in
       longer (lines_of site codes (SetPsw source) program) (program_lines site codes program) (lines_some program (record known { psw = true; changed = true }) off x.1)
   lines_some (Leave exit ∷ program) known off e =
-      let some = departs site exit in
+      let some = departs Beq site exit in
       let a = length-append (leaving site codes exit) (program_lines site codes program) in
       let b = length-append (map plain codes) (trap_lines site exit ++ departing site exit) in
       let c = length-append (trap_lines site exit) (departing site exit) in

@@ -1,23 +1,26 @@
 -- The end of a program whose operands are used where they stand: the codes, the register that is written, and what comes behind.
-use Rattle.std.proofs.Common.{◌≡◌, ℕ, ◌+◌, ◌/◌, ◌%◌, ◌^◌, ◌<◌, ◌≤◌, refl, sym, ap, ◌∙◌, subst, arith, eqb-true, List, [], ◌∷◌, ◌++◌, length, map, Option, Some, None, Bool, true, false, lit<, lit≤, length-append}
-use Rattle.std.specs.Prelude.{◌==◌, ◌&&◌, ◌||◌, nat_lt, not, is_none, option_and_then, slice_set, unwrap_or, if◌then◌else◌}
+use Rattle.std.proofs.Common.{◌≡◌, ℕ, ◌+◌, ◌/◌, ◌%◌, ◌^◌, ◌<◌, ◌≤◌, refl, sym, ap, ◌∙◌, subst, arith, eqb-true, List, [], ◌∷◌, ◌++◌, length, map, Option, Some, None, Bool, true, false, lit<, lit≤, length-append, ◌-◌, inl, inr}
+use Rattle.std.specs.Prelude.{◌==◌, ◌&&◌, ◌||◌, nat_lt, not, is_none, option_and_then, slice_set, unwrap_or, if◌then◌else◌, ◌⊎◌}
 use Rattle.std.specs.List.{list_all}
 use Rattle.std.proofs.lemmas.Bool.Decides.{nat_tests}
 use Rattle.std.proofs.lemmas.Bool.{and_parts, ltb-true}
 use Rattle.vt_words.specs.Quad.{left, sign_extended}
-use Rattle.vt_words.proofs.Longwords.{extended_again, extended_low, same_extended}
+use Rattle.vt_words.proofs.Longwords.{extended_again, extended_fits, extended_low, same_extended}
 use Rattle.vax_form.specs.State.{with_core, with_pc, with_register}
-use Rattle.vax_form.specs.Tree.{Finish}
+use Rattle.vax_form.specs.Tree.{Ends, Finish, Trap}
 use Rattle.vax_form.specs.declared.instr.Size.{Size}
 use Rattle.vax_form.specs.declared.instr.Size.TheVariants.{Byte, Word, Long, Quad}
 use Rattle.vax_form.specs.declared.state.Flags.{Flags}
 use Rattle.alpha_encode.specs.declared.instr.AlphaInstr.{AlphaInstr}
 use Rattle.alpha_encode.specs.declared.instr.AlphaInstr.TheVariants.{Memory, Branch, Operate, Jump, Pal}
-use Rattle.alpha_meaning.specs.Act.{second_value}
+use Rattle.alpha_encode.specs.declared.instr.BranchOp.{BranchOp}
+use Rattle.alpha_encode.specs.declared.instr.BranchOp.TheVariants.{Beq}
+use Rattle.alpha_encode.specs.declared.instr.OperateOp.TheVariants as row
+use Rattle.alpha_meaning.specs.Act.{links, second_value, taken}
 use Rattle.alpha_meaning.specs.Loops.{effect, effects, fine, is_operate, written}
-use Rattle.alpha_meaning.specs.Result.{long, plus, result_of}
+use Rattle.alpha_meaning.specs.Result.{result_of}
 use Rattle.alpha_meaning.specs.State.{Regs, at_place, put}
-use Rattle.alpha_meaning.proofs.Registers.{put_other, put_same}
+use Rattle.alpha_meaning.proofs.Registers.{put_other}
 use Rattle.alpha_meaning.proofs.Rules.{effects_only}
 use Rattle.exception_records.specs.Codes.{codes_by, comparison_codes, difference_codes, low, result_codes, sum_codes}
 use Rattle.exception_records.specs.Shown.{codes_shown, registers_shown, still_held}
@@ -26,14 +29,14 @@ use Rattle.exception_records.specs.declared.rules.CodeRule.TheVariants as rules
 use Rattle.micro_ops.specs.declared.codes.CodeSource.{CodeSource}
 use Rattle.micro_ops.specs.declared.codes.CodeSource.TheVariants as code_sources
 use Rattle.micro_ops.specs.declared.known.Holding.{Holding}
-use Rattle.micro_ops.specs.declared.known.Holding.TheVariants.{Nothing}
+use Rattle.micro_ops.specs.declared.known.Holding.TheVariants.{Nothing, Wide}
 use Rattle.micro_ops.specs.declared.known.Known.{Known}
 use Rattle.micro_ops.specs.declared.program.Exit.{Exit}
 use Rattle.micro_ops.specs.declared.program.Exit.TheVariants as exits
 use Rattle.micro_ops.specs.Fits.{carry_is_held, exit_fits, exit_holds, is_from_psw, is_from_values, same, signs_are_held, sources_fit}
 use Rattle.micro_ops.specs.Known.{held, holds, is_something}
 use Rattle.micro_ops.specs.Leaving.{CodesComeFrom, SignsComeFrom, state_left}
-use Rattle.micro_ops.specs.Meaning.{Departure, Ended, Standing, departed, leaves_by, traps}
+use Rattle.micro_ops.specs.Meaning.{Departure, Ended, Standing, Temps, departed, leaves_by, traps}
 use Rattle.micro_ops.specs.Course.{AtLeaves}
 use Rattle.micro_ops.specs.Sources.{codes_written_by}
 use Rattle.micro_ops.specs.Uses.{is_quad}
@@ -46,22 +49,23 @@ use Rattle.program_codegen.specs.declared.direct.Raised.{Raised}
 use Rattle.block_law.specs.Tidy.{is_kept}
 use Rattle.program_codegen.specs.declared.homes.Homes.{Homes}
 use Rattle.program_codegen.specs.declared.points.Site.{Site}
-use Rattle.program_codegen.specs.Homes.{AreLasting, IsLasting, are_left, are_short_rules, is_made_there, commit_stays, is_left_alone, commit_words, end_lines, exit_stays, home_at, home_of, is_operand, is_short_rule, may_end, moved_words, none_raised, raised_at, end_words, waiting_words, goes_by, is_left, rewrites, stands_in, with_waiting}
+use Rattle.program_codegen.specs.Homes.{AreLasting, IsLasting, are_left, are_short_rules, is_made_there, commit_stays, is_left_alone, commit_words, end_lines, exit_stays, home_at, home_of, is_operand, is_short_rule, may_end, moved_words, none_raised, raised_at, end_words, waiting_words, goes_by, is_left, rewrites, stands_in, with_waiting, IsHome, choice_of, end_by}
 use Rattle.program_codegen.specs.Programs.{IsExit}
-use Rattle.program_codegen.specs.Words.{departing, plain, trap_lines}
+use Rattle.program_codegen.specs.Words.{departing, departing_by, plain, trap_by}
 use Rattle.program_codegen.proofs.Coded.{Coded, carry_by, coded_by, fine_operates, registers_same, signs_by, sources_parts}
 use Rattle.program_codegen.proofs.Committing.{above, form_register}
 use Rattle.program_codegen.proofs.Computing.{codes_kept, held_still, held_value}
 use Rattle.program_codegen.proofs.Departures.{departs_some, same_psw}
 use Rattle.program_codegen.proofs.Exiting.{chooses, exits_to, kept_apart}
 use Rattle.program_codegen.proofs.HomeCodes.{Moved, held_unread, home_stays, moved_effects}
-use Rattle.program_codegen.proofs.HomeHolding.{Direct, LeftAlone, held_own, hidden, hide, lasting_is, left_alone_is}
+use Rattle.program_codegen.proofs.HomeHolding.{Direct, LeftAlone, held_own, hidden, hide, lasting_is, left_alone_is, home_is}
+use Rattle.program_codegen.proofs.HomeChoices.{ByNumber, choice_is}
 use Rattle.program_codegen.proofs.HomeNumbers.{IsExtended}
 use Rattle.program_codegen.proofs.HomeShapes.{moved_fine}
 use Rattle.program_codegen.proofs.HomeSparing.{Extends, end_operates, flipped, not_false, put_zero, waiting_same}
 use Rattle.program_codegen.proofs.Holding.{HoldsAs, Setting, ends, found, tree}
 use Rattle.program_codegen.proofs.Numbers.{all_three, all_four, committed_is}
-use Rattle.program_codegen.proofs.Testing.{trap_or, traps_first}
+use Rattle.program_codegen.proofs.Testing.{trap_or, trap_or_by, traps_first}
 use Rattle.program_codegen.proofs.Trapping.{ExitHolds, Overflows}
 use Rattle.program_codegen.proofs.Walk.{Within, is_inside, row_length, row_rest, row_words}
 
@@ -326,10 +330,10 @@ module _ (p : Placement) (site : Site) (codes : List AlphaInstr) (setting : Sett
       → Overflows site (hidden homes known) (committed commit standing) p.begun.psw
   overflows None left ok same signs =
       let parts = sources_parts site.sources known ok in
-      record { codes_fit = parts.0; psw_fits = parts.1; overflowed = d.holds.overflowed; no_overflow = d.holds.no_overflow; signs = subst (λ psw. SignsComeFrom site.sources.nzv p.begun.psw psw standing.temps) same signs }
+      record { codes_fit = parts.0; psw_fits = parts.1; overflowed = d.holds.overflowed; no_overflow = d.holds.no_overflow; temps = standing.temps; signs = subst (λ psw. SignsComeFrom site.sources.nzv p.begun.psw psw standing.temps) same signs }
   overflows (Some commit) left ok same signs =
       let parts = sources_parts site.sources known ok in
-      record { codes_fit = parts.0; psw_fits = parts.1; overflowed = d.holds.overflowed; no_overflow = d.holds.no_overflow; signs = subst (λ psw. SignsComeFrom site.sources.nzv p.begun.psw psw standing.temps) same signs }
+      record { codes_fit = parts.0; psw_fits = parts.1; overflowed = d.holds.overflowed; no_overflow = d.holds.no_overflow; temps = standing.temps; signs = subst (λ psw. SignsComeFrom site.sources.nzv p.begun.psw psw standing.temps) same signs }
 
   same_temps : (commit : Option (ℕ × ℕ)) → (committed commit standing).temps ≡ standing.temps
   same_temps None = refl
@@ -462,13 +466,45 @@ pub effects_append : (is js : List AlphaInstr) (f : Regs) → effects (is ++ js)
 effects_append [] js f = refl
 effects_append (i ∷ is) js f = effects_append is js (effect i f)
 
--- what stands behind those words
-record Behind (p : Placement) (site : Site) (known : Known) (standing : Standing) (exit : Exit) (regs : Regs) : Type 0 where
-  pub now : Known
-  pub coded : Coded p site now standing regs
-  pub same_codes : now.codes ≡ known.codes
-  pub same_changed : now.psw ≡ known.psw
-  pub exit_holds : ExitHolds now exit
+-- known of a number in the register of a temporary, and of no other
+abbrev held_at : (number register : ℕ) → Holding
+held_at number register = if register == number then Wide else Nothing
+
+abbrev numbered : (number : ℕ) → Known → Known
+numbered number known = record known {
+  temp0 = held_at number 21;
+  temp1 = held_at number 22;
+  temp2 = held_at number 23;
+  temp3 = Nothing;
+  temp4 = Nothing;
+  temp5 = Nothing;
+}
+
+coded_number : (p : Placement) (site : Site) (known : Known) (standing : Standing) (regs : Regs) (number : ℕ) → regs number < 2 ^ 64 → Coded p site known standing regs
+    → Coded p site (numbered number known) (record standing { temps = λ n. regs number }) regs
+coded_number p site known standing regs number fits c = record {
+  form = c.form;
+  temps = λ temp lt three four. by_six (λ n. HoldsAs (held (numbered number known) n) (regs number) (regs (21 + n))) (at 21) (at 22) (at 23) tt tt tt temp lt;
+  state = c.state;
+  upper = c.upper;
+  before = c.before;
+  codes = c.codes;
+}
+  where
+    at : (register : ℕ) → HoldsAs (held_at number register) (regs number) (regs register)
+    at register = by (register == number) refl
+      where
+        by : (b : Bool) → (register == number) ≡ b → HoldsAs (if b then Wide else Nothing) (regs number) (regs register)
+        by true e = (ap regs (eqb-true register number e), fits)
+        by false e = tt
+
+-- an exit that goes by it finds it
+number_holds : (number : ℕ) (known : Known) → 21 ≤ number → number < 24 → exit_holds (numbered number known) (number - 21) ≡ true
+number_holds number known high low =
+    let same : 21 + (number - 21) ≡ number = omega arith in
+    subst (λ n. exit_holds (numbered n known) (number - 21) ≡ true) same
+    (by_six (λ n. n < 3 → exit_holds (numbered (21 + n) known) n ≡ true) (λ lt. refl) (λ lt. refl) (λ lt. refl)
+    (λ lt. absurd (omega arith)) (λ lt. absurd (omega arith)) (λ lt. absurd (omega arith)) (number - 21) (omega arith) (omega arith))
 
 module _ (p : Placement) (site : Site) (codes : List AlphaInstr) (setting : Setting p site codes) (known : Known) (homes : Homes) (standing : Standing) (regs : Regs) (d : Direct p site known homes standing (begins homes regs)) where
   abbrev direct_regs : Regs
@@ -514,73 +550,187 @@ module _ (p : Placement) (site : Site) (codes : List AlphaInstr) (setting : Sett
       ∙ (waiting_same exit homes None homes.waiting (words ++ commit_words homes commit) (effects (waiting_words homes.before) regs) (last_extends homes.waiting refl) d.holds.form.zero n kept
       ∙ ap (λ (f : Regs). f n) (effects_append words (commit_words homes commit) (begins homes regs)))
 
-  end_coded : (commit : Option (ℕ × ℕ)) (exit : Exit) (words : List AlphaInstr) → IsExit exit → ExitHolds (hidden homes known) exit
-      → Coded p site (hidden homes known) (committed commit standing) (effects (commit_words homes commit) (effects words (begins homes regs)))
-      → Behind p site (hidden homes known) (committed commit standing) exit (effects (end_words homes commit exit words) regs)
-  end_coded commit exit words is holds c = record {
-    now = left_known exit (hidden homes known);
-    coded = coded_left p site (hidden homes known) (committed commit standing) exit (effects (commit_words homes commit) (effects words (begins homes regs))) (effects (end_words homes commit exit words) regs) (row_same commit exit words) c;
-    same_codes = refl;
-    same_changed = refl;
-    exit_holds = left_holds exit (hidden homes known) is holds;
-  }
-
   -- ---- the whole end
-  ends_by : (exit : Exit) (onward : Departure) (commit : Option (ℕ × ℕ)) (words : List AlphaInstr) (pc : ℕ) → Waits homes → LeftAlone site.sources homes → moved_words homes codes ≡ Some words
-      → Within p site.behind pc (end_lines site homes commit exit words) → commit_stays commit ≡ true → exit_stays homes exit ≡ true → are_short_rules site.behind ≡ true → CommitFits known commit
-      → IsExit exit → exit_fits known exit ≡ true → sources_fit site.sources known ≡ true
-      → CodesComeFrom site.sources p.begun (record { departure = trap_or site (committed commit standing) exit onward; temps = (committed commit standing).temps }) → (state_left onward).psw ≡ (committed commit standing).state.psw
-      → ((now : Known) (g : Regs) (pc' : ℕ) → Coded p site now (committed commit standing) g → ExitHolds now exit → Within p site.behind pc' (departing site exit) → Always p None (length (departing site exit)) (at_place g pc') (departed p.serve onward))
-      → Always p None (length (end_lines site homes commit exit words)) (at_place regs pc) (departed p.serve (trap_or site (committed commit standing) exit onward))
-  ends_by exit onward commit words pc waits alone moved w stays exit_ok short fits is ok sources come left behind =
-      let some = departs_some p site codes setting exit in
+  -- how the program leaves where it goes on by a departure
+  abbrev LeftBy : (commit : Option (ℕ × ℕ)) → Exit → (onward : Departure) → Departure
+  LeftBy commit exit onward = trap_or site (committed commit standing) exit onward
+
+  -- what stands behind the words up to the exit, of what stands behind those for the codes and the register that is written
+  abbrev Behind : (commit : Option (ℕ × ℕ)) (exit : Exit) (words : List AlphaInstr) (now : Known) (last : Standing) → Type 0
+  Behind commit exit words now last =
+      Coded p site (hidden homes known) (committed commit standing) (effects (commit_words homes commit) (effects words (begins homes regs)))
+      → Overflows site (hidden homes known) (committed commit standing) p.begun.psw
+      → Coded p site now last (effects (end_words homes commit exit words) regs) × Overflows site now last p.begun.psw
+
+  ends_by : (choice : BranchOp × Exit) (exit : Exit) (onward : Departure) (commit : Option (ℕ × ℕ)) (words : List AlphaInstr) (pc : ℕ) (now : Known) (last : Standing)
+      → links choice.0 ≡ false → IsExit choice.1 → ExitHolds now choice.1 → trap_or_by choice.0 site last choice.1 onward ≡ LeftBy commit exit onward
+      → Waits homes → LeftAlone site.sources homes → moved_words homes codes ≡ Some words
+      → Within p site.behind pc (end_by site homes commit choice words) → commit_stays commit ≡ true → are_short_rules site.behind ≡ true → CommitFits known commit → sources_fit site.sources known ≡ true
+      → CodesComeFrom site.sources p.begun (record { departure = LeftBy commit exit onward; temps = (committed commit standing).temps }) → (state_left onward).psw ≡ (committed commit standing).state.psw
+      → Behind commit choice.1 words now last
+      → ((g : Regs) (pc' : ℕ) → Coded p site now last g → Within p site.behind pc' (departing_by choice.0 site choice.1) → Always p None (length (departing_by choice.0 site choice.1)) (at_place g pc') (departed p.serve onward))
+      → Always p None (length (end_by site homes commit choice words)) (at_place regs pc) (departed p.serve (LeftBy commit exit onward))
+  ends_by choice exit onward commit words pc now last unlinked is holds same waits alone moved w stays short fits sources come left behind departs =
+      let some = departs_some p site codes setting choice.0 choice.1 in
       let only = moved_fine homes alone.lasting (may_be_written site.sources) codes words moved setting.leaves.only in
-      let rest = trap_lines site exit ++ departing site exit in
-      let row = end_words homes commit exit words in
-      let first = row_length p site.behind (end_words homes commit exit words) rest in
-      let third = length-append (trap_lines site exit) (departing site exit) in
+      let rest = trap_by choice.0 site choice.1 ++ departing_by choice.0 site choice.1 in
+      let row = end_words homes commit choice.1 words in
+      let first = row_length p site.behind (end_words homes commit choice.1 words) rest in
+      let third = length-append (trap_by choice.0 site choice.1) (departing_by choice.0 site choice.1) in
       let whole = same_psw (committed commit standing) _ onward (traps (committed commit standing)) left in
       let high = w.high in
-      let t = departed p.serve (trap_or site (committed commit standing) exit onward) in
-      let c = leaves_codes p site codes setting known homes standing direct_regs d words (trap_or site (committed commit standing) exit onward) alone moved sources short (whole ∙ same_psw_left p site codes setting known homes standing direct_regs d commit)
-      (subst (λ temps. CodesComeFrom site.sources p.begun (record { departure = trap_or site (committed commit standing) exit onward; temps = temps })) (same_temps p site codes setting known homes standing direct_regs d commit) come) in
-      let e = end_coded commit exit words is (exit_known p site codes setting known homes standing direct_regs d exit exit_ok ok) (committed_coded p site codes setting known homes standing direct_regs d words commit alone.lasting only stays fits c) in
-      let w1 = row_rest p site.behind pc (end_words homes commit exit words) rest w in
-      let signs = subst (λ temps. SignsComeFrom site.sources.nzv p.begun.psw (state_left (trap_or site (committed commit standing) exit onward)).psw temps) (same_temps p site codes setting known homes standing direct_regs d commit) come.signs in
+      let t = departed p.serve (LeftBy commit exit onward) in
+      let c = leaves_codes p site codes setting known homes standing direct_regs d words (LeftBy commit exit onward) alone moved sources short (whole ∙ same_psw_left p site codes setting known homes standing direct_regs d commit)
+      (subst (λ temps. CodesComeFrom site.sources p.begun (record { departure = LeftBy commit exit onward; temps = temps })) (same_temps p site codes setting known homes standing direct_regs d commit) come) in
+      let signs = subst (λ temps. SignsComeFrom site.sources.nzv p.begun.psw (state_left (LeftBy commit exit onward)).psw temps) (same_temps p site codes setting known homes standing direct_regs d commit) come.signs in
       let o = overflows p site codes setting known homes standing direct_regs d commit _ sources whole signs in
-      roomy p None (length (end_words homes commit exit words) + (length (trap_lines site exit) + length (departing site exit))) (length (end_lines site homes commit exit words)) (at_place regs pc) t (omega arith)
-      (operates p None (length (trap_lines site exit) + length (departing site exit)) (end_words homes commit exit words) regs pc t (row_words p site.behind pc (end_words homes commit exit words) rest w)
-      (end_operates homes commit exit words waits.0 waits.1 (fine_operates (may_be_written site.sources) words only)) w.low (omega arith) (λ q lt le. is_inside p site.behind pc q (map plain (end_words homes commit exit words) ++ (trap_lines site exit ++ departing site exit)) w lt (omega arith))
-      (traps_first p site e.now (committed commit standing) setting.after p.begun.psw setting.written (still_overflows e.now e.same_codes e.same_changed commit o) setting.narrow
-      (length (departing site exit)) (pc + length (end_words homes commit exit words)) exit (departing site exit) (effects (end_words homes commit exit words) regs) onward e.coded is e.exit_holds w1 some
-      (λ g' pc' untrapped c' w'. behind e.now g' pc' c' e.exit_holds w')))
-    where
-      still_overflows : (now : Known) → now.codes ≡ known.codes → now.psw ≡ known.psw → (commit : Option (ℕ × ℕ)) → Overflows site (hidden homes known) (committed commit standing) p.begun.psw → Overflows site now (committed commit standing) p.begun.psw
-      still_overflows now same_codes same_psw commit o = record {
-        codes_fit = subst (λ b. same b (is_from_values site.sources.nzv) ≡ true) (sym same_codes) o.codes_fit;
-        psw_fits = subst (λ b. same b (is_from_psw site.sources.nzv) ≡ true) (sym same_psw) o.psw_fits;
-        overflowed = λ e f. o.overflowed (sym same_codes ∙ e) (sym same_psw ∙ f);
-        no_overflow = λ e. o.no_overflow (sym same_codes ∙ e);
-        signs = o.signs;
-      }
+      let e = behind (committed_coded p site codes setting known homes standing direct_regs d words commit alone.lasting only stays fits c) o in
+      let w1 = row_rest p site.behind pc (end_words homes commit choice.1 words) rest w in
+      roomy p None (length (end_words homes commit choice.1 words) + (length (trap_by choice.0 site choice.1) + length (departing_by choice.0 site choice.1))) (length (end_by site homes commit choice words)) (at_place regs pc) t (omega arith)
+      (operates p None (length (trap_by choice.0 site choice.1) + length (departing_by choice.0 site choice.1)) (end_words homes commit choice.1 words) regs pc t (row_words p site.behind pc (end_words homes commit choice.1 words) rest w)
+      (end_operates homes commit choice.1 words waits.0 waits.1 (fine_operates (may_be_written site.sources) words only)) w.low (omega arith)
+      (λ q lt le. is_inside p site.behind pc q (map plain (end_words homes commit choice.1 words) ++ (trap_by choice.0 site choice.1 ++ departing_by choice.0 site choice.1)) w lt (omega arith))
+      (subst (λ (u : Departure). Always p None (length (trap_by choice.0 site choice.1) + length (departing_by choice.0 site choice.1)) (at_place (effects (end_words homes commit choice.1 words) regs) (pc + length (end_words homes commit choice.1 words))) (departed p.serve u)) same
+      (traps_first p site now last setting.after choice.0 unlinked p.begun.psw setting.written e.1 setting.narrow
+      (length (departing_by choice.0 site choice.1)) (pc + length (end_words homes commit choice.1 words)) choice.1 (departing_by choice.0 site choice.1) (effects (end_words homes commit choice.1 words) regs) onward e.0 is holds w1 some
+      (λ g' pc' untrapped c' w'. departs g' pc' c' w'))))
 
+  -- ---- an exit by its own temporary
+  by_temporary : (exit : Exit) (onward : Departure) (commit : Option (ℕ × ℕ)) (words : List AlphaInstr) (pc : ℕ) → Waits homes → moved_words homes codes ≡ Some words
+      → Within p site.behind pc (end_by site homes commit (Beq, exit) words) → may_end site homes commit exit ≡ true → CommitFits known commit
+      → IsExit exit → exit_fits known exit ≡ true → sources_fit site.sources known ≡ true
+      → CodesComeFrom site.sources p.begun (record { departure = LeftBy commit exit onward; temps = (committed commit standing).temps }) → (state_left onward).psw ≡ (committed commit standing).state.psw
+      → ((now : Known) (g : Regs) (pc' : ℕ) → Coded p site now (committed commit standing) g → ExitHolds now exit → Within p site.behind pc' (departing site exit) → Always p None (length (departing site exit)) (at_place g pc') (departed p.serve onward))
+      → Always p None (length (end_by site homes commit (Beq, exit) words)) (at_place regs pc) (departed p.serve (LeftBy commit exit onward))
+  by_temporary exit onward commit words pc waits moved w may fits is ok sources come left departs =
+      let x = all_four (are_left site.sources homes) (commit_stays commit) (exit_stays homes exit) (are_short_rules site.behind) may in
+      let holds = left_holds exit (hidden homes known) is (exit_known p site codes setting known homes standing direct_regs d exit x.2 ok) in
+      ends_by (Beq, exit) exit onward commit words pc (left_known exit (hidden homes known)) (committed commit standing) refl is holds refl waits (left_alone_is site.sources homes d.are x.0) moved w x.1 x.3 fits sources come left
+      (λ c o. (
+        coded_left p site (hidden homes known) (committed commit standing) exit (effects (commit_words homes commit) (effects words (begins homes regs))) (effects (end_words homes commit exit words) regs) (row_same commit exit words) c,
+        record { codes_fit = o.codes_fit; psw_fits = o.psw_fits; overflowed = o.overflowed; no_overflow = o.no_overflow; temps = o.temps; signs = o.signs },
+      ))
+      (λ g pc' c w'. departs (left_known exit (hidden homes known)) g pc' c holds w')
+
+  -- ---- a choice by the number that is compared
+  module _ (when chosen other : ℕ) (choice : BranchOp × Exit) (n : ByNumber homes when chosen other choice) (commit : Option (ℕ × ℕ)) (words : List AlphaInstr) (alone : LeftAlone site.sources homes) (moved : moved_words homes codes ≡ Some words)
+      (fits : CommitFits known commit) (is : IsExit (exits.Choice when chosen other)) (own : home_of homes when ≡ None) (holds : exit_holds known when ≡ true) where
+    abbrev Chosen : Exit
+    Chosen = exits.Choice (n.test.1 - 21) chosen other
+
+    abbrev left_regs : Regs
+    left_regs = effects (end_words homes commit (exits.Choice (n.test.1 - 21) chosen other) words) regs
+
+    -- it is still there
+    is_kept_there : is_left (exits.Choice (n.test.1 - 21) chosen other) n.test.1 ≡ false
+    is_kept_there =
+        let high = n.high in
+        let there_again : ((21 + (n.test.1 - 21)) == n.test.1) ≡ true = grind (arith, nat_tests) in
+        rw there_again (nothing (nat_lt 20 n.test.1) (nat_lt n.test.1 27))
+      where
+        nothing : (c e : Bool) → (c && e && false) ≡ false
+        nothing true true = refl
+        nothing true false = refl
+        nothing false e = refl
+
+    uncommitted : (commit : Option (ℕ × ℕ)) (f : Regs) → CommitFits known commit → effects (commit_words homes commit) f n.test.1 ≡ f n.test.1
+    uncommitted None f fits = refl
+    uncommitted (Some commit) f fits =
+        let high = n.high in
+        put_other f commit.0 (result_of row.Addl (f (unwrap_or (home_of homes commit.1) (21 + commit.1))) 0 (f commit.0)) n.test.1 (above commit.0 n.test.1 fits.0 (omega arith))
+
+    number_stays : left_regs n.test.1 ≡ begins homes regs n.test.1
+    number_stays =
+        let low = n.low in
+        let high = n.high in
+        let only = moved_fine homes alone.lasting (may_be_written site.sources) codes words moved setting.leaves.only in
+        row_same commit (exits.Choice (n.test.1 - 21) chosen other) words n.test.1 is_kept_there
+        ∙ (uncommitted commit (effects words (begins homes regs)) fits
+        ∙ effects_only words (may_be_written site.sources) (begins homes regs) (begins homes regs) only (λ k out. refl) n.test.1 (home_stays site.sources n.test.1 (n.low, λ not_so. n.high)))
+
+    number_fits : begins homes regs n.test.1 < 2 ^ 64
+    number_fits = subst (λ v. v < 2 ^ 64) (there p site known homes standing (begins homes regs) d n.test.1 n.test.1 n.there).1 (extended_fits (begins homes regs n.test.1))
+
+    begins_is : (k : ℕ) → begins homes regs k ≡ effect n.word (effects (waiting_words homes.before) regs) k
+    begins_is k = ap (λ (o : Option AlphaInstr). effects (waiting_words o) (effects (waiting_words homes.before) regs) k) n.waits
+
+    compared_there : begins homes regs n.test.1 ≡ effects (waiting_words homes.before) regs n.test.1
+    compared_there = begins_is n.test.1 ∙ effect_other n.word (effects (waiting_words homes.before) regs) n.test.1 n.apart
+
+    temporary_there : begins homes regs (21 + when) ≡ standing.temps when
+    temporary_there =
+        let x = all_three (is_something (held known when)) (not (when == 3)) (not (when == 4)) holds in
+        (held_value (held (hidden homes known) when) (standing.temps when) (begins homes regs (21 + when)) (ap is_something (held_own homes known when own) ∙ x.0) (d.holds.temps when is.0)).0
+
+    -- so the branch chooses as the temporary does
+    chooses_same : taken n.test.0 (left_regs n.test.1) ≡ ((committed commit standing).temps when == 0)
+    chooses_same =
+        let lt = is.0 in
+        let place = n.writes in
+        let last : (written n.word == 31) ≡ false = grind (arith, nat_tests) in
+        let zero = sym (zero_still homes.waiting (effects (waiting_words homes.before) regs)) ∙ d.holds.form.zero in
+        ap (taken n.test.0) (number_stays ∙ compared_there)
+        ∙ (sym (n.told (effects (waiting_words homes.before) regs) zero (subst (λ v. v < 2 ^ 64) compared_there number_fits) last)
+        ∙ (ap (λ k. effect n.word (effects (waiting_words homes.before) regs) k == 0) n.writes
+        ∙ (ap (λ v. v == 0) (sym (begins_is (21 + when)) ∙ temporary_there)
+        ∙ ap (λ (temps : Temps). temps when == 0) (sym (same_temps p site codes setting known homes standing direct_regs d commit)))))
+
+    abbrev last_standing : Standing
+    last_standing = record (committed commit standing) { temps = λ k. left_regs n.test.1 }
+
+    pub by_number : (pc : ℕ) → Waits homes → Within p site.behind pc (end_by site homes commit (n.test.0, exits.Choice (n.test.1 - 21) chosen other) words) → commit_stays commit ≡ true → are_short_rules site.behind ≡ true
+        → sources_fit site.sources known ≡ true
+        → AtLeaves (CodesComeFrom site.sources p.begun) (leaves_by (exits.Choice when chosen other) (found p site) (committed commit standing))
+        → Always p None (length (end_by site homes commit (n.test.0, exits.Choice (n.test.1 - 21) chosen other) words)) (at_place regs pc) (tree (ends p) (leaves_by (exits.Choice when chosen other) (found p site) (committed commit standing)))
+    by_number pc waits w stays short sources come =
+        let low = n.low in
+        let now = numbered n.test.1 (left_known Chosen (hidden homes known)) in
+        let exit_is : IsExit Chosen = (omega arith, is.1, is.2) in
+        let found_there = number_holds n.test.1 (left_known Chosen (hidden homes known)) n.high n.low in
+        let onward = Ended (Finish (with_pc (if (committed commit standing).temps when == 0 then other else chosen) (committed commit standing).state)) in
+        ends_by (n.test.0, Chosen) (exits.Choice when chosen other) onward commit words pc now last_standing n.unlinked exit_is found_there
+        (ap (λ c. if traps (committed commit standing) then Ended (Trap 1 (with_pc (if c then other else chosen) (committed commit standing).state)) else onward) chooses_same)
+        waits alone moved w stays short fits sources come refl
+        (λ c o. (
+          coded_number p site (left_known Chosen (hidden homes known)) (committed commit standing) left_regs n.test.1 (subst (λ v. v < 2 ^ 64) (sym number_stays) number_fits)
+              (coded_left p site (hidden homes known) (committed commit standing) Chosen (effects (commit_words homes commit) (effects words (begins homes regs))) left_regs (row_same commit Chosen words) c),
+          record { codes_fit = o.codes_fit; psw_fits = o.psw_fits; overflowed = o.overflowed; no_overflow = o.no_overflow; temps = o.temps; signs = o.signs },
+        ))
+        (λ g pc' c w'. subst (λ b. Always p None 7 (at_place g pc') (Ends (Finish (with_pc (if b then other else chosen) (committed commit standing).state)))) chooses_same
+        (chooses p site now last_standing g c n.test.0 n.unlinked pc' (n.test.1 - 21) chosen other w' exit_is.0 found_there))
+
+  -- ---- each exit
   pub end_follows : (exit : Exit) (commit : Option (ℕ × ℕ)) (words : List AlphaInstr) (pc : ℕ) → Waits homes → moved_words homes codes ≡ Some words
       → Within p site.behind pc (end_lines site homes commit exit words) → may_end site homes commit exit ≡ true → CommitFits known commit
       → IsExit exit → exit_fits known exit ≡ true → sources_fit site.sources known ≡ true
       → AtLeaves (CodesComeFrom site.sources p.begun) (leaves_by exit (found p site) (committed commit standing))
       → Always p None (length (end_lines site homes commit exit words)) (at_place regs pc) (tree (ends p) (leaves_by exit (found p site) (committed commit standing)))
   end_follows exits.Next commit words pc waits moved w may fits is ok sources agree =
-      let x = all_four (are_left site.sources homes) (commit_stays commit) (exit_stays homes exits.Next) (are_short_rules site.behind) may in
-      ends_by exits.Next (Ended (Finish (with_pc site.after (committed commit standing).state))) commit words pc waits (left_alone_is site.sources homes d.are x.0) moved w x.1 x.2 x.3 fits is ok sources agree refl
+      by_temporary exits.Next (Ended (Finish (with_pc site.after (committed commit standing).state))) commit words pc waits moved w may fits is ok sources agree refl
       (λ now g pc' c holds w'. exits_to p site now (committed commit standing) g c pc' site.after [] w')
   end_follows (exits.Fixed address) commit words pc waits moved w may fits is ok sources agree =
-      let x = all_four (are_left site.sources homes) (commit_stays commit) (exit_stays homes (exits.Fixed address)) (are_short_rules site.behind) may in
-      ends_by (exits.Fixed address) (Ended (Finish (with_pc address (committed commit standing).state))) commit words pc waits (left_alone_is site.sources homes d.are x.0) moved w x.1 x.2 x.3 fits is ok sources agree refl
+      by_temporary (exits.Fixed address) (Ended (Finish (with_pc address (committed commit standing).state))) commit words pc waits moved w may fits is ok sources agree refl
       (λ now g pc' c holds w'. exits_to p site now (committed commit standing) g c pc' address [] w')
-  end_follows (exits.Choice when taken other) commit words pc waits moved w may fits is ok sources agree =
-      let x = all_four (are_left site.sources homes) (commit_stays commit) (exit_stays homes (exits.Choice when taken other)) (are_short_rules site.behind) may in
-      ends_by (exits.Choice when taken other) (Ended (Finish (with_pc (if (committed commit standing).temps when == 0 then other else taken) (committed commit standing).state))) commit words pc waits (left_alone_is site.sources homes d.are x.0) moved w x.1 x.2 x.3 fits is ok sources agree refl
-      (λ now g pc' c holds w'. chooses p site now (committed commit standing) g c pc' when taken other w' is.0 holds)
+  end_follows (exits.Choice when chosen other) commit words pc waits moved w may fits is ok sources agree = by (choice_is homes when chosen other) w
+    where
+      Ending : BranchOp × Exit → Type 0
+      Ending choice =
+          Within p site.behind pc (end_by site homes commit choice words)
+          → Always p None (length (end_by site homes commit choice words)) (at_place regs pc) (tree (ends p) (leaves_by (exits.Choice when chosen other) (found p site) (committed commit standing)))
+
+      stays : (are_left site.sources homes ≡ true) × (commit_stays commit ≡ true) × (exit_stays homes (exits.Choice when chosen other) ≡ true) × (are_short_rules site.behind ≡ true)
+      stays = all_four (are_left site.sources homes) (commit_stays commit) (exit_stays homes (exits.Choice when chosen other)) (are_short_rules site.behind) may
+
+      none : (o : Option ℕ) → is_none o ≡ true → o ≡ None
+      none None e = refl
+      none (Some r) e = absurd (cc e)
+
+      by : (choice_of homes (exits.Choice when chosen other) ≡ (Beq, exits.Choice when chosen other)) ⊎ ByNumber homes when chosen other (choice_of homes (exits.Choice when chosen other)) → Ending (choice_of homes (exits.Choice when chosen other))
+      by (inl e) =
+          subst Ending (sym e)
+          (λ w. by_temporary (exits.Choice when chosen other) (Ended (Finish (with_pc (if (committed commit standing).temps when == 0 then other else chosen) (committed commit standing).state))) commit words pc waits moved w may fits is ok sources agree refl
+          (λ now g pc' c holds w'. chooses p site now (committed commit standing) g c Beq refl pc' when chosen other w' is.0 holds))
+      by (inr n) = subst Ending n.whole (λ w. by_number when chosen other (choice_of homes (exits.Choice when chosen other)) n commit words (left_alone_is site.sources homes d.are stays.0) moved fits is (none (home_of homes when) stays.2) ok pc waits w stays.1 stays.3 sources agree)
   end_follows (exits.Computed temp) commit words pc waits moved w may fits is ok sources agree = let x = all_four (are_left site.sources homes) (commit_stays commit) (exit_stays homes (exits.Computed temp)) (are_short_rules site.behind) may in absurd (cc x.2)
   end_follows (exits.Service temp) commit words pc waits moved w may fits is ok sources agree = let x = all_four (are_left site.sources homes) (commit_stays commit) (exit_stays homes (exits.Service temp)) (are_short_rules site.behind) may in absurd (cc x.2)
   end_follows exits.Breakpoint commit words pc waits moved w may fits is ok sources agree = let x = all_four (are_left site.sources homes) (commit_stays commit) (exit_stays homes exits.Breakpoint) (are_short_rules site.behind) may in absurd (cc x.2)

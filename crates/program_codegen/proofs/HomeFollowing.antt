@@ -39,9 +39,9 @@ use Rattle.program_codegen.proofs.HomeReaching.{direct_checks, direct_reads, dir
 use Rattle.program_codegen.specs.declared.homes.Homes.{Homes}
 use Rattle.program_codegen.specs.declared.lines.Line.{Line}
 use Rattle.program_codegen.specs.declared.points.Site.{Site}
-use Rattle.program_codegen.specs.Homes.{are_left, are_short_rules, choice_lines, commit_stays, copied, direct_by, direct_code, direct_end, direct_lines, direct_step, end_at, end_lines, end_words, exit_behind, exit_stays, is_direct, made, may_end, moved_words, needed_words, new_home, next_exit, step_by, tested_at, tested_exit, waiting_words, with_home, is_shared, may_write, reach, reached, read_home, reading, settled, stands, compared, tested_words, all_waiting, behind_waiting}
+use Rattle.program_codegen.specs.Homes.{are_left, are_short_rules, choice_lines, commit_stays, copied, direct_by, direct_code, direct_end, direct_lines, direct_step, end_at, end_lines, end_words, exit_behind, exit_stays, is_direct, made, may_end, moved_words, needed_words, new_home, next_exit, step_by, tested_at, tested_exit, waiting_words, with_home, is_shared, may_write, reach, reached, read_home, reading, settled, stands, compared, tested_words, all_waiting, behind_waiting, choice_of}
 use Rattle.program_codegen.specs.Programs.{AllHaveWords, ReadsReady}
-use Rattle.program_codegen.specs.Words.{departing, plain, trap_lines, copy, marked, probing, write_by}
+use Rattle.program_codegen.specs.Words.{departing_by, plain, trap_by, copy, marked, probing, write_by}
 use Rattle.program_codegen.proofs.Committing.{sets_codes}
 use Rattle.program_codegen.proofs.Following.{departs, opened}
 use Rattle.program_codegen.proofs.HomeComputing.{compared_operates, compares_then, computes, copies_then, made_operates, makes_then}
@@ -141,9 +141,9 @@ module _ (site : Site) (codes : List AlphaInstr) where
   end_some operation program homes lines e =
       let c = chained (Option (ℕ × ℕ) × Exit) (List Line) (λ (end : Option (ℕ × ℕ) × Exit). direct_end site codes homes end.0 end.1) (end_at site.sources operation program) lines e in
       let x = ended site codes homes c.found.0 c.found.1 lines c.onward in
-      let some = departs site c.found.1 in
-      let rest = trap_lines site c.found.1 ++ departing site c.found.1 in
-      subst (λ (ls : List Line). 1 ≤ length ls) x.whole (last (map plain (end_words homes c.found.0 c.found.1 x.words)) (trap_lines site c.found.1) (departing site c.found.1) some)
+      let choice = choice_of homes c.found.1 in
+      let some = departs choice.0 site choice.1 in
+      subst (λ (ls : List Line). 1 ≤ length ls) x.whole (last (map plain (end_words homes c.found.0 choice.1 x.words)) (trap_by choice.0 site choice.1) (departing_by choice.0 site choice.1) some)
     where
       last : (xs cs ds : List Line) → 1 ≤ length ds → 1 ≤ length (xs ++ (cs ++ ds))
       last xs cs ds some =

@@ -1,6 +1,6 @@
 -- The lines of a program whose operands are used where they stand, by themselves.
 use Rattle.std.proofs.Common.{◌≡◌, ℕ, ◌+◌, ◌-◌, ◌^◌, ◌<◌, ◌≤◌, refl, sym, ap, ap₂, ◌∙◌, subst, arith, List, [], ◌∷◌, ◌++◌, length, map, Option, Some, None, Bool, true, false, lit<, lit≤, length-append, inl, inr, append_assoc}
-use Rattle.std.specs.Prelude.{◌⊎◌, pos, ◌==◌, ◌&&◌, ◌||◌, is_some, not, nat_lt, All, option_and_then, option_map, if◌then◌else◌, unwrap_or, nat_le, is_none}
+use Rattle.std.specs.Prelude.{◌⊎◌, pos, ◌==◌, ◌&&◌, ◌||◌, not, nat_lt, All, option_and_then, option_map, if◌then◌else◌, unwrap_or, nat_le, is_none}
 use Rattle.std.specs.List.{list_all, list_any}
 use Rattle.std.proofs.lemmas.Bool.Decides.{nat_tests}
 use Rattle.std.proofs.lemmas.Bool.{ltb-true, and_from, and_parts}
@@ -47,14 +47,15 @@ use Rattle.program_codegen.proofs.HomeFronts.{probe_front, read_front, write_fro
 use Rattle.program_codegen.specs.declared.homes.Homes.{Homes}
 use Rattle.program_codegen.specs.declared.lines.Line.{Line}
 use Rattle.program_codegen.specs.declared.points.Site.{Site}
-use Rattle.program_codegen.specs.Homes.{AreHomes, IsHome, are_left, are_short_rules, code_by, commit_stays, compared, comparison, copied, direct_code, direct_lines, direct_step, end_lines, exit_behind, exit_stays, extended_first, extended_second, home_by, home_of, is_copying, is_shared, long_operation, made, made_operation, may_end, moved_words, new_home, placed, standing_in, with_home, end_words, step_by, waiting_words, choice_lines, next_exit, tested_at, tested_exit, is_short_constant, made_size, needed_words, is_extended, may_write, read_home, reading, settled, stands, all_waiting, is_exact, is_sized}
+use Rattle.program_codegen.specs.Homes.{AreHomes, IsHome, are_left, are_short_rules, code_by, commit_stays, compared, comparison, copied, direct_code, direct_lines, direct_step, end_lines, exit_behind, exit_stays, extended_first, extended_second, home_by, home_of, is_copying, is_shared, long_operation, made, made_operation, may_end, moved_words, new_home, placed, standing_in, with_home, end_words, step_by, waiting_words, choice_lines, next_exit, tested_at, tested_exit, is_short_constant, made_size, needed_words, is_extended, may_write, read_home, reading, settled, stands, all_waiting, is_exact, is_sized, choice_of}
 use Rattle.program_codegen.specs.Programs.{AllHaveWords, IsExit}
-use Rattle.program_codegen.specs.Words.{departing, exit_lines, plain, trap_lines, words_of, copy, marked, probing, write_by}
+use Rattle.program_codegen.specs.Words.{departing_by, exit_lines, plain, trap_by, words_of, copy, marked, probing, write_by}
 use Rattle.program_codegen.proofs.Coded.{fine_operates}
 use Rattle.program_codegen.proofs.Endings.{above_codes, codes_local, codes_quiet, departing_each, departing_goes, departing_short, departing_spares, one_word, or_nothing, traps_silent}
 use Rattle.program_codegen.proofs.Following.{opened}
 use Rattle.program_codegen.proofs.Fronts.{Shape, any_neither, quiet_kept, row_targets, row_words_are, silent_front, spares_append, targets, targets_append, words_append, free_front}
 use Rattle.program_codegen.proofs.HomeComputing.{compared_word, made_long, made_word, Joined, Literally, copying, made_operates, compared_operates, sized_unmade, Sized}
+use Rattle.program_codegen.proofs.HomeChoices.{choice_fits, choice_goes, choice_links, choice_quiet}
 use Rattle.program_codegen.proofs.HomeFollowing.{Stepped, ends_with, stepped, with_exit, row_apart, waits_same, reaching, where_false, where_true}
 use Rattle.program_codegen.proofs.HomeSomes.{chained, first_is, mapped}
 use Rattle.program_codegen.proofs.HomeTesting.{Tested, facts, tested}
@@ -288,25 +289,18 @@ module _ (homes : Homes) (are : AreHomes homes) where
 
 -- ---- the end
 module _ (site : Site) (codes : List AlphaInstr) (after_fits : site.after < 2 ^ 32) (encodable : All IsEncodable codes) (few : length codes ≤ 32) (only : list_all (fine (may_be_written site.sources)) codes ≡ true) where
-  quiet_exit : (homes : Homes) (exit : Exit) → exit_stays homes exit ≡ true → list_any may_fault (words_of (departing site exit)) ≡ false
-  quiet_exit homes exits.Next stays = refl
-  quiet_exit homes (exits.Fixed address) stays = refl
-  quiet_exit homes (exits.Choice when taken other) stays = refl
-  quiet_exit homes (exits.Computed temp) stays = absurd (cc stays)
-  quiet_exit homes (exits.Service temp) stays = absurd (cc stays)
-  quiet_exit homes exits.Breakpoint stays = absurd (cc stays)
-
-  leaving_shape : (homes : Homes) (exit : Exit) → IsExit exit → exit_stays homes exit ≡ true → Shape site true [] (exit_addresses site.after exit) 27 (trap_lines site exit ++ departing site exit)
-  leaving_shape homes exit is stays =
-      let trap = traps_silent site exit is in
-      let size = length-append (trap_lines site exit) (departing site exit) in
+  leaving_shape : (op : BranchOp) (exit : Exit) → links op ≡ false → IsExit exit → list_any may_fault (words_of (departing_by op site exit)) ≡ false
+      → Shape site true [] (exit_addresses site.after exit) 27 (trap_by op site exit ++ departing_by op site exit)
+  leaving_shape op exit unlinked is quiet =
+      let trap = traps_silent site op exit unlinked is in
+      let size = length-append (trap_by op site exit) (departing_by op site exit) in
       let short = trap.few in
-      let last = departing_short site after_fits exit in
+      let last = departing_short site after_fits op exit in
       record {
-        each = each_append site 0 (trap_lines site exit) (departing site exit) trap.front.each (departing_each site after_fits exit is);
-        kept = any_neither may_fault (trap_lines site exit) (departing site exit) trap.quiet (quiet_exit homes exit stays);
-        goes = targets_append (trap_lines site exit) (departing site exit) ∙ (ap (λ xs. xs ++ targets (departing site exit)) trap.front.stays ∙ departing_goes site after_fits exit);
-        writes = λ r low high. spares_append (trap_lines site exit) (departing site exit) trap.front.spares (departing_spares site after_fits exit) r low high;
+        each = each_append site 0 (trap_by op site exit) (departing_by op site exit) trap.front.each (departing_each site after_fits op exit is);
+        kept = any_neither may_fault (trap_by op site exit) (departing_by op site exit) trap.quiet quiet;
+        goes = targets_append (trap_by op site exit) (departing_by op site exit) ∙ (ap (λ xs. xs ++ targets (departing_by op site exit)) trap.front.stays ∙ departing_goes site after_fits op exit);
+        writes = λ r low high. spares_append (trap_by op site exit) (departing_by op site exit) trap.front.spares (departing_spares site after_fits op exit unlinked) r low high;
         short = omega arith;
       }
 
@@ -318,27 +312,28 @@ module _ (site : Site) (codes : List AlphaInstr) (after_fits : site.after < 2 ^ 
   end_shape homes are waits commit exit words changed moved may numbered is =
       let x = all_four (are_left site.sources homes) (commit_stays commit) (exit_stays homes exit) (are_short_rules site.behind) may in
       let lasting = (left_alone_is site.sources homes are x.0).lasting in
-      let rest = trap_lines site exit ++ departing site exit in
-      let row = end_words homes commit exit words in
-      let behind = leaving_shape homes exit is x.2 in
+      let choice = choice_of homes exit in
+      let rest = trap_by choice.0 site choice.1 ++ departing_by choice.0 site choice.1 in
+      let row = end_words homes commit choice.1 words in
+      let behind = leaving_shape choice.0 choice.1 (choice_links homes exit) (choice_fits homes exit is) (choice_quiet site choice.0 homes exit x.2) in
       let fine_words = moved_fine homes lasting (may_be_written site.sources) codes words moved only in
       let operate = fine_operates (may_be_written site.sources) words fine_words in
-      let any = anything (end_words homes commit exit words) (end_operates homes commit exit words waits.before.operate waits.last.operate operate) in
-      let s = end_row homes are waits commit exit words x.1 numbered (moved_encodable homes lasting codes words moved encodable) operate in
-      let size = length-append (map plain (end_words homes commit exit words)) rest in
-      let count = plain_length (end_words homes commit exit words) in
+      let any = anything (end_words homes commit choice.1 words) (end_operates homes commit choice.1 words waits.before.operate waits.last.operate operate) in
+      let s = end_row homes are waits commit choice.1 words x.1 numbered (moved_encodable homes lasting codes words moved encodable) operate in
+      let size = length-append (map plain (end_words homes commit choice.1 words)) rest in
+      let count = plain_length (end_words homes commit choice.1 words) in
       let same = moved_length homes lasting codes words moved in
       let short = behind.short in
       let most = s.few in
       record {
-        each = each_append site 0 (map plain (end_words homes commit exit words)) rest (row_fits site (end_words homes commit exit words) s.encodable (list_all_of (fine (λ n. true)) is_local (codes_local (λ n. true)) (end_words homes commit exit words) any)) behind.each;
-        kept = quiet_kept changed (words_of (map plain (end_words homes commit exit words) ++ rest)) (any_neither may_fault (map plain (end_words homes commit exit words)) rest (ap (list_any may_fault) (row_words_are (end_words homes commit exit words)) ∙ codes_quiet (λ n. true) (end_words homes commit exit words) any) behind.kept);
-        goes = targets_append (map plain (end_words homes commit exit words)) rest ∙ (ap (λ xs. xs ++ targets rest) (row_targets (end_words homes commit exit words)) ∙ behind.goes);
+        each = each_append site 0 (map plain (end_words homes commit choice.1 words)) rest (row_fits site (end_words homes commit choice.1 words) s.encodable (list_all_of (fine (λ n. true)) is_local (codes_local (λ n. true)) (end_words homes commit choice.1 words) any)) behind.each;
+        kept = quiet_kept changed (words_of (map plain (end_words homes commit choice.1 words) ++ rest)) (any_neither may_fault (map plain (end_words homes commit choice.1 words)) rest (ap (list_any may_fault) (row_words_are (end_words homes commit choice.1 words)) ∙ codes_quiet (λ n. true) (end_words homes commit choice.1 words) any) behind.kept);
+        goes = targets_append (map plain (end_words homes commit choice.1 words)) rest ∙ (ap (λ xs. xs ++ targets rest) (row_targets (end_words homes commit choice.1 words)) ∙ (behind.goes ∙ choice_goes homes site.after exit));
         writes = λ r low high.
-            ap (writes_register r) (words_append (map plain (end_words homes commit exit words)) rest)
-            ∙ (list_any-append (λ i. register_written i == r) (words_of (map plain (end_words homes commit exit words))) (words_of rest)
-            ∙ (ap (λ xs. writes_register r xs || writes_register r (words_of rest)) (row_words_are (end_words homes commit exit words))
-            ∙ (ap (λ b. writes_register r (end_words homes commit exit words) || b) (behind.writes r low high) ∙ (or_nothing (writes_register r (end_words homes commit exit words)) ∙ (s.writes r low high ∙ moved_writes homes lasting r high codes words moved)))));
+            ap (writes_register r) (words_append (map plain (end_words homes commit choice.1 words)) rest)
+            ∙ (list_any-append (λ i. register_written i == r) (words_of (map plain (end_words homes commit choice.1 words))) (words_of rest)
+            ∙ (ap (λ xs. writes_register r xs || writes_register r (words_of rest)) (row_words_are (end_words homes commit choice.1 words))
+            ∙ (ap (λ b. writes_register r (end_words homes commit choice.1 words) || b) (behind.writes r low high) ∙ (or_nothing (writes_register r (end_words homes commit choice.1 words)) ∙ (s.writes r low high ∙ moved_writes homes lasting r high codes words moved)))));
         short = omega arith;
       }
 

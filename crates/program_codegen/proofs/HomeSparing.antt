@@ -4,7 +4,7 @@ use Rattle.std.specs.Prelude.{◌==◌, ◌&&◌, ◌||◌, nat_lt, not, bit_or,
 use Rattle.std.specs.List.{list_all}
 use Rattle.std.specs.Int.Bits.{or_zero_l}
 use Rattle.std.proofs.lemmas.Bool.Decides.{nat_tests}
-use Rattle.std.proofs.lemmas.Bool.{and_parts, and_from, not-true, or_from, ltb-true}
+use Rattle.std.proofs.lemmas.Bool.{and_parts, and_from, or_from, ltb-true}
 use Rattle.std.proofs.lemmas.List.Elements.{All-append, All-cons, All-head, All-nil, All-tail}
 use Rattle.std.proofs.lemmas.List.Folds.{list_any-append}
 use Rattle.std.proofs.lemmas.Option.{same_Some}
@@ -23,7 +23,7 @@ use Rattle.alpha_meaning.proofs.Registers.{put_other, put_same}
 use Rattle.block_law.specs.Tidy.{register_written, writes_register}
 use Rattle.micro_ops.specs.declared.program.Exit.{Exit}
 use Rattle.program_codegen.specs.declared.homes.Homes.{Homes}
-use Rattle.program_codegen.specs.Homes.{AreHomes, commit_stays, is_left_alone, commit_words, end_words, home_of, is_choice, into, second_reads, spared_word, spared_words, stands_in, waiting_words, word_reads, copies_from, goes_by, is_left, leaves_made, makes_home, with_spared, with_waiting}
+use Rattle.program_codegen.specs.Homes.{AreHomes, commit_stays, is_left_alone, commit_words, end_words, home_of, is_choice, into, second_reads, spared_word, spared_words, waiting_words, word_reads, copies_from, goes_by, is_left, leaves_made, makes_home, with_spared, with_waiting}
 use Rattle.program_codegen.proofs.HomeCodes.{held_unread}
 use Rattle.program_codegen.proofs.Fronts.{free_spares}
 use Rattle.program_codegen.proofs.HomeHolding.{home_is}

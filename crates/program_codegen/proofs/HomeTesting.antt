@@ -12,11 +12,10 @@ use Rattle.vax_form.specs.Tree.{Ends, Finish, Trap}
 use Rattle.vax_form.specs.declared.instr.Size.{Size}
 use Rattle.vax_form.specs.declared.instr.Size.TheVariants.{Byte, Word, Long, Quad}
 use Rattle.alpha_encode.specs.declared.instr.AlphaInstr.{AlphaInstr}
-use Rattle.alpha_encode.specs.declared.instr.AlphaInstr.TheVariants.{Memory, Branch, Operate, Jump, Pal}
+use Rattle.alpha_encode.specs.declared.instr.AlphaInstr.TheVariants.{Branch}
 use Rattle.alpha_encode.specs.declared.instr.BranchOp.{BranchOp}
 use Rattle.alpha_encode.specs.declared.instr.BranchOp.TheVariants.{Beq, Blbc}
-use Rattle.alpha_meaning.specs.Act.{links, second_value, taken, target_of}
-use Rattle.alpha_meaning.specs.Result.{result_of}
+use Rattle.alpha_meaning.specs.Act.{links, taken, target_of}
 use Rattle.alpha_meaning.specs.Loops.{effect, effects, is_operate, written}
 use Rattle.alpha_meaning.specs.State.{Regs, at_place, put}
 use Rattle.alpha_meaning.proofs.Registers.{put_other, put_same}

@@ -45,6 +45,7 @@ pub mod Testing
 pub mod Departures
 pub mod Beginning
 pub mod HomeNumbers
+pub mod HomeChoices
 pub mod HomeCodes
 pub mod HomeSomes
 pub mod HomeShapes

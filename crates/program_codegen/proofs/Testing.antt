@@ -7,11 +7,12 @@ use Rattle.vt_words.specs.Values.{bit}
 use Rattle.vax_form.specs.State.{with_pc}
 use Rattle.vax_form.specs.Tree.{Tree, Ends, Trap}
 use Rattle.alpha_encode.specs.declared.instr.AlphaInstr.TheVariants.{Memory, Branch, Operate, Pal}
+use Rattle.alpha_encode.specs.declared.instr.BranchOp.{BranchOp}
 use Rattle.alpha_encode.specs.declared.instr.BranchOp.TheVariants.{Beq}
 use Rattle.alpha_encode.specs.declared.instr.MemoryOp.TheVariants.{Lda}
 use Rattle.alpha_encode.specs.declared.instr.OperateOp.TheVariants.{And}
 use Rattle.alpha_encode.specs.declared.instr.Second.TheVariants.{Literal}
-use Rattle.alpha_meaning.specs.Act.{target_of}
+use Rattle.alpha_meaning.specs.Act.{links, target_of}
 use Rattle.alpha_meaning.specs.Result.{plus, times}
 use Rattle.alpha_meaning.specs.State.{Regs, put, at_place}
 use Rattle.alpha_meaning.proofs.Registers.{put_other}
@@ -28,12 +29,12 @@ use Rattle.block_law.proofs.Kept.{state_kept}
 use Rattle.block_law.proofs.Rules.{Always, roomy, goes, passes, skips, traps}
 use Rattle.program_codegen.specs.declared.lines.Line.{Line}
 use Rattle.program_codegen.specs.declared.points.Site.{Site}
-use Rattle.program_codegen.specs.Words.{plain, marked, trapping, overflow_made, overflow_register, tells_overflow, may_overflow, load_pc, overflow_lines, ready_lines, made_lines, tested_lines, may_trap, trap_lines}
+use Rattle.program_codegen.specs.Words.{plain, marked, trapping, overflow_made, overflow_register, tells_overflow, may_overflow, load_by, overflow_by, ready_lines, made_lines, tested_lines, may_trap, trap_by}
 use Rattle.program_codegen.specs.Programs.{IsExit, is_narrow}
 use Rattle.program_codegen.proofs.Walk.{Within, next, stands, is_inside, row_rest, plain_length}
 use Rattle.program_codegen.proofs.Coded.{Coded, left_is, coded_still}
 use Rattle.program_codegen.proofs.Exiting.{kept_by_put, kept_apart}
-use Rattle.program_codegen.proofs.Trapping.{Overflows, left_overflow, not_set, is_overflow, untrapped, makes, ready_is, pc_left, ExitHolds, loads_pc}
+use Rattle.program_codegen.proofs.Trapping.{Overflows, left_overflow, not_set, is_overflow, untrapped, makes, ready_is, pc_left_by, ExitHolds, loads_pc}
 use Rattle.program_codegen.proofs.Rows.{made_short}
 use Rattle.program_codegen.proofs.Endings.{pc_short}
 
@@ -64,38 +65,38 @@ set_of : (b : Bool) (n : ℕ) → bit b ≡ n → (n == 0) ≡ false → b ≡ t
 set_of true n e f = refl
 set_of false n e f = let none : (n == 0) ≡ true = grind (arith, nat_tests) in absurd (cc (sym none ∙ f))
 
-module _ (p : Placement) (site : Site) (known : Known) (standing : Standing) (after_fits : site.after < 2 ^ 32) where
+module _ (p : Placement) (site : Site) (known : Known) (standing : Standing) (after_fits : site.after < 2 ^ 32) (op : BranchOp) (unlinked : links op ≡ false) where
   -- ---- the trap
   traps_there : (pc : ℕ) (exit : Exit) (rest : List Line) (regs : Regs) → Coded p site known standing regs → IsExit exit → ExitHolds known exit
-      → Within p site.behind pc (map plain (load_pc site.after exit) ++ (plain (Memory Lda 21 31 (pos 1)) ∷ marked (Pal 0x84) (trapping site) ∷ rest))
-      → Always p None (length (load_pc site.after exit) + 2) (at_place regs pc) (Ends (Trap 1 (with_pc (pc_left site standing exit) standing.state)))
+      → Within p site.behind pc (map plain (load_by op site.after exit) ++ (plain (Memory Lda 21 31 (pos 1)) ∷ marked (Pal 0x84) (trapping site) ∷ rest))
+      → Always p None (length (load_by op site.after exit) + 2) (at_place regs pc) (Ends (Trap 1 (with_pc (pc_left_by op site standing exit) standing.state)))
   traps_there pc exit rest regs c is holds w =
-      let q = pc + length (load_pc site.after exit) in
-      let w1 = row_rest p site.behind pc (load_pc site.after exit) (plain (Memory Lda 21 31 (pos 1)) ∷ marked (Pal 0x84) (trapping site) ∷ rest) w in
+      let q = pc + length (load_by op site.after exit) in
+      let w1 = row_rest p site.behind pc (load_by op site.after exit) (plain (Memory Lda 21 31 (pos 1)) ∷ marked (Pal 0x84) (trapping site) ∷ rest) w in
       let w2 = next p site.behind q (Memory Lda 21 31 (pos 1)) None (marked (Pal 0x84) (trapping site) ∷ rest) w1 in
       let end = w1.high in
-      loads_pc p site known standing after_fits 2 pc exit (plain (Memory Lda 21 31 (pos 1)) ∷ marked (Pal 0x84) (trapping site) ∷ rest) regs _ c is holds w (omega arith)
+      loads_pc p site known standing after_fits op unlinked 2 pc exit (plain (Memory Lda 21 31 (pos 1)) ∷ marked (Pal 0x84) (trapping site) ∷ rest) regs _ c is holds w (omega arith)
       (λ g only low.
       let kind = plus (g 31) (times 1 1) in
       let zero_reads : g 31 ≡ 0 = only 31 refl ∙ c.form.zero in
       let same : (n : ℕ) → is_kept n ≡ true → put g 21 kind n ≡ regs n = λ n kept. kept_by_put g 21 kind (lit≤ tt) (lit≤ tt) n kept ∙ only n (kept_apart 26 n (lit≤ tt) (lit≤ tt) kept) in
       goes p None 1 (at_place g q) (at_place (put g 21 kind) (q + 1)) (Memory Lda 21 31 (pos 1)) _ (stands p site.behind q (Memory Lda 21 31 (pos 1)) None (marked (Pal 0x84) (trapping site) ∷ rest) w1) refl (omega arith)
       (is_inside p site.behind q (q + 1) _ w1 (omega arith) (omega arith))
-      (traps p None 1 (with_pc (pc_left site standing exit) standing.state) (at_place (put g 21 kind) (q + 1)) (trapping site) (stands p site.behind (q + 1) (Pal 0x84) (Some (trapping site)) rest w2) w2.has.0.1
+      (traps p None 1 (with_pc (pc_left_by op site standing exit) standing.state) (at_place (put g 21 kind) (q + 1)) (trapping site) (stands p site.behind (q + 1) (Pal 0x84) (Some (trapping site)) rest w2) w2.has.0.1
       (rw zero_reads refl)
-      (left_is p site known standing regs c (pc_left site standing exit)
-      ∙ (sym (state_kept regs (put g 21 kind) same p (pc_left site standing exit) site.behind (still_held p.held p.written)) ∙ ap (λ pc. state_behind p (put g 21 kind) pc site.behind) (sym low)))))
+      (left_is p site known standing regs c (pc_left_by op site standing exit)
+      ∙ (sym (state_kept regs (put g 21 kind) same p (pc_left_by op site standing exit) site.behind (still_held p.held p.written)) ∙ ap (λ pc. state_behind p (put g 21 kind) pc site.behind) (sym low)))))
 
   module _ (found : ℕ) (written : p.written ≡ codes_written_by site.sources) (o : Overflows site known standing found) (narrow : is_narrow site.behind.v ≡ true) (exit : Exit) (is : IsExit exit) (holds : ExitHolds known exit) (rest : List Line) (some : 1 ≤ length rest) (need : ℕ) (t : Tree)
       (clear : (g : Regs) (q : ℕ) → is_trapping standing ≡ false → Coded p site known standing g → Within p site.behind q rest → Always p None need (at_place g q) t) where
     abbrev Either : Bool → Tree
-    Either b = if b then Ends (Trap 1 (with_pc (pc_left site standing exit) standing.state)) else t
+    Either b = if b then Ends (Trap 1 (with_pc (pc_left_by op site standing exit) standing.state)) else t
 
     abbrev trap : List Line
-    trap = overflow_lines site exit
+    trap = overflow_by op site exit
 
-    trap_length : length trap ≡ length (load_pc site.after exit) + 2
-    trap_length = length-append (map plain (load_pc site.after exit)) (plain (Memory Lda 21 31 (pos 1)) ∷ marked (Pal 0x84) (trapping site) ∷ []) ∙ ap (λ n. n + 2) (plain_length (load_pc site.after exit))
+    trap_length : length trap ≡ length (load_by op site.after exit) + 2
+    trap_length = length-append (map plain (load_by op site.after exit)) (plain (Memory Lda 21 31 (pos 1)) ∷ marked (Pal 0x84) (trapping site) ∷ []) ∙ ap (λ n. n + 2) (plain_length (load_by op site.after exit))
 
     not_trapping : standing.overflowed ≡ false → is_trapping standing ≡ false
     not_trapping e = ap (λ b. b && (flag_of 5 standing.state.psw == 1)) e
@@ -107,17 +108,17 @@ module _ (p : Placement) (site : Site) (known : Known) (standing : Standing) (af
         by true = refl
         by false = refl
 
-    trap_assoc : trap ++ rest ≡ map plain (load_pc site.after exit) ++ (plain (Memory Lda 21 31 (pos 1)) ∷ marked (Pal 0x84) (trapping site) ∷ rest)
-    trap_assoc = append_assoc (map plain (load_pc site.after exit)) (plain (Memory Lda 21 31 (pos 1)) ∷ marked (Pal 0x84) (trapping site) ∷ []) rest
+    trap_assoc : trap ++ rest ≡ map plain (load_by op site.after exit) ++ (plain (Memory Lda 21 31 (pos 1)) ∷ marked (Pal 0x84) (trapping site) ∷ rest)
+    trap_assoc = append_assoc (map plain (load_by op site.after exit)) (plain (Memory Lda 21 31 (pos 1)) ∷ marked (Pal 0x84) (trapping site) ∷ []) rest
 
     -- behind the trap
     abbrev over : ℕ → ℕ
-    over pc = pc + length (load_pc site.after exit) + 1 + 1
+    over pc = pc + length (load_by op site.after exit) + 1 + 1
 
     behind_trap : (pc : ℕ) → Within p site.behind pc (trap ++ rest) → Within p site.behind (over pc) rest
     behind_trap pc w =
-        let q = pc + length (load_pc site.after exit) in
-        let w1 = row_rest p site.behind pc (load_pc site.after exit) (plain (Memory Lda 21 31 (pos 1)) ∷ marked (Pal 0x84) (trapping site) ∷ rest) (subst (Within p site.behind pc) trap_assoc w) in
+        let q = pc + length (load_by op site.after exit) in
+        let w1 = row_rest p site.behind pc (load_by op site.after exit) (plain (Memory Lda 21 31 (pos 1)) ∷ marked (Pal 0x84) (trapping site) ∷ rest) (subst (Within p site.behind pc) trap_assoc w) in
         next p site.behind (q + 1) (Pal 0x84) (Some (trapping site)) rest (next p site.behind q (Memory Lda 21 31 (pos 1)) None (marked (Pal 0x84) (trapping site) ∷ rest) w1)
 
     -- a register is tested that tells whether it is trapped
@@ -133,7 +134,7 @@ module _ (p : Placement) (site : Site) (known : Known) (standing : Standing) (af
         by true e =
             let none = not_set_is e in
             let size = trap_length in
-            let short = pc_short site.after exit in
+            let short = pc_short op site.after exit in
             let all = length-append trap rest in
             let end = w.high in
             let near = w.near in
@@ -148,8 +149,8 @@ module _ (p : Placement) (site : Site) (known : Known) (standing : Standing) (af
             let all = length-append trap rest in
             let end = w.high in
             subst (λ b. Always p None (1 + length trap + need) (at_place regs pc) (Either b)) (sym (set_is e))
-            (roomy p None (length (load_pc site.after exit) + 2 + 1) (1 + length trap + need) (at_place regs pc) _ (omega arith)
-            (passes p None (length (load_pc site.after exit) + 2) (at_place regs pc) Beq register (pos (length trap)) _ (stands p site.behind pc (Branch Beq register (pos (length trap))) None (trap ++ rest) w) e
+            (roomy p None (length (load_by op site.after exit) + 2 + 1) (1 + length trap + need) (at_place regs pc) _ (omega arith)
+            (passes p None (length (load_by op site.after exit) + 2) (at_place regs pc) Beq register (pos (length trap)) _ (stands p site.behind pc (Branch Beq register (pos (length trap))) None (trap ++ rest) w) e
             (is_inside p site.behind pc (pc + 1) _ w (omega arith) (omega arith)) (traps_there (pc + 1) exit rest regs c is holds (subst (Within p site.behind (pc + 1)) trap_assoc w1))))
 
     -- ---- IV
@@ -214,7 +215,7 @@ module _ (p : Placement) (site : Site) (known : Known) (standing : Standing) (af
         by true e =
             let none = by_overflow (regs 18) in_register overflow e in
             let size = trap_length in
-            let short = pc_short site.after exit in
+            let short = pc_short op site.after exit in
             let all = length-append trap rest in
             let end = w.high in
             let near = w.near in
@@ -274,7 +275,7 @@ module _ (p : Placement) (site : Site) (known : Known) (standing : Standing) (af
             let a = all in
             let k = trap_length in
             let m = made_short rule in
-            let l = pc_short site.after exit in
+            let l = pc_short op site.after exit in
             let end = w.high in
             let near = w.near in
             let to = over (pc + 1 + 1 + length (overflow_made rule) + 1) in
@@ -311,7 +312,7 @@ module _ (p : Placement) (site : Site) (known : Known) (standing : Standing) (af
     tested rule rule_is pc regs may tells c w = made rule rule_is pc regs may tells c w
 
     -- the trap, or what comes behind
-    pub trap_follows : (pc : ℕ) (regs : Regs) → Coded p site known standing regs → Within p site.behind pc (trap_lines site exit ++ rest) → Always p None (length (trap_lines site exit) + need) (at_place regs pc) (Either (is_trapping standing))
+    pub trap_follows : (pc : ℕ) (regs : Regs) → Coded p site known standing regs → Within p site.behind pc (trap_by op site exit ++ rest) → Always p None (length (trap_by op site exit) + need) (at_place regs pc) (Either (is_trapping standing))
     trap_follows pc regs c w = by (may_trap site) refl w
       where
         split : (a b : Bool) → (if a then b else false) ≡ true → (a ≡ true) × (b ≡ true)
@@ -326,18 +327,21 @@ module _ (p : Placement) (site : Site) (known : Known) (standing : Standing) (af
             subst (λ b. Always p None (0 + need) (at_place regs pc) (Either b)) (sym (not_trapping none)) (roomy p None need (0 + need) (at_place regs pc) t (omega arith) (clear regs pc (not_trapping none) c w))
 
 -- the same where a program goes on by a departure
-abbrev pub trap_or : Site → Standing → Exit → Departure → Departure
-trap_or site standing exit onward = if is_trapping standing then Ended (Trap 1 (with_pc (pc_left site standing exit) standing.state)) else onward
+abbrev pub trap_or_by : BranchOp → Site → Standing → Exit → Departure → Departure
+trap_or_by op site standing exit onward = if is_trapping standing then Ended (Trap 1 (with_pc (pc_left_by op site standing exit) standing.state)) else onward
 
-module _ (p : Placement) (site : Site) (known : Known) (standing : Standing) (after_fits : site.after < 2 ^ 32) (found : ℕ) (written : p.written ≡ codes_written_by site.sources) (o : Overflows site known standing found) (narrow : is_narrow site.behind.v ≡ true) where
+abbrev pub trap_or : Site → Standing → Exit → Departure → Departure
+trap_or site standing exit onward = trap_or_by Beq site standing exit onward
+
+module _ (p : Placement) (site : Site) (known : Known) (standing : Standing) (after_fits : site.after < 2 ^ 32) (op : BranchOp) (unlinked : links op ≡ false) (found : ℕ) (written : p.written ≡ codes_written_by site.sources) (o : Overflows site known standing found) (narrow : is_narrow site.behind.v ≡ true) where
   pub traps_first : (need pc : ℕ) (exit : Exit) (rest : List Line) (regs : Regs) (onward : Departure) → Coded p site known standing regs → IsExit exit → ExitHolds known exit
-      → Within p site.behind pc (trap_lines site exit ++ rest) → 1 ≤ length rest
+      → Within p site.behind pc (trap_by op site exit ++ rest) → 1 ≤ length rest
       → ((g : Regs) (q : ℕ) → is_trapping standing ≡ false → Coded p site known standing g → Within p site.behind q rest → Always p None need (at_place g q) (departed p.serve onward))
-      → Always p None (length (trap_lines site exit) + need) (at_place regs pc) (departed p.serve (trap_or site standing exit onward))
+      → Always p None (length (trap_by op site exit) + need) (at_place regs pc) (departed p.serve (trap_or_by op site standing exit onward))
   traps_first need pc exit rest regs onward c is holds w some behind =
-      subst (Always p None (length (trap_lines site exit) + need) (at_place regs pc)) (by (is_trapping standing))
-      (trap_follows p site known standing after_fits found written o narrow exit is holds rest some need (departed p.serve onward) behind pc regs c w)
+      subst (Always p None (length (trap_by op site exit) + need) (at_place regs pc)) (by (is_trapping standing))
+      (trap_follows p site known standing after_fits op unlinked found written o narrow exit is holds rest some need (departed p.serve onward) behind pc regs c w)
     where
-      by : (b : Bool) → (if b then Ends (Trap 1 (with_pc (pc_left site standing exit) standing.state)) else departed p.serve onward) ≡ departed p.serve (if b then Ended (Trap 1 (with_pc (pc_left site standing exit) standing.state)) else onward)
+      by : (b : Bool) → (if b then Ends (Trap 1 (with_pc (pc_left_by op site standing exit) standing.state)) else departed p.serve onward) ≡ departed p.serve (if b then Ended (Trap 1 (with_pc (pc_left_by op site standing exit) standing.state)) else onward)
       by true = refl
       by false = refl

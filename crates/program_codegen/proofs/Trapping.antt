@@ -11,8 +11,9 @@ use Rattle.vax_form.specs.declared.instr.Size.TheVariants.{Byte, Word, Long, Qua
 use Rattle.vax_form.specs.declared.state.Flags.{Flags}
 use Rattle.vax_form.specs.declared.instr.Width.{Width}
 use Rattle.alpha_encode.specs.declared.instr.AlphaInstr.TheVariants.{Branch}
+use Rattle.alpha_encode.specs.declared.instr.BranchOp.{BranchOp}
 use Rattle.alpha_encode.specs.declared.instr.BranchOp.TheVariants.{Br, Beq}
-use Rattle.alpha_meaning.specs.Act.{Goes, target_of}
+use Rattle.alpha_meaning.specs.Act.{Goes, links, taken, target_of}
 use Rattle.alpha_meaning.specs.Pieces.{Only, Over}
 use Rattle.alpha_meaning.specs.State.{Regs, put, at_place}
 use Rattle.alpha_meaning.proofs.Registers.{put_other}
@@ -28,7 +29,7 @@ use Rattle.micro_ops.specs.declared.program.Exit.TheVariants as exits
 use Rattle.micro_ops.specs.Fits.{same, exit_holds, is_from_values, is_from_psw}
 use Rattle.micro_ops.specs.Leaving.{SignsComeFrom}
 use Rattle.micro_ops.specs.Uses.{is_quad}
-use Rattle.micro_ops.specs.Meaning.{Standing, flag_of}
+use Rattle.micro_ops.specs.Meaning.{Standing, Temps, flag_of}
 use Rattle.micro_ops.specs.Values.{low}
 use Rattle.compute_sequences.specs.Overflow.{IsOverflow, overflows, overflow_code}
 use Rattle.compute_sequences.specs.Promises.{Leaves}
@@ -42,7 +43,7 @@ use Rattle.block_law.proofs.Rules.{Always, roomy, goes, passes, skips, runs}
 use Rattle.program_codegen.specs.declared.lines.Line.{Line}
 use Rattle.program_codegen.specs.declared.points.Site.{Site}
 use Rattle.alpha_encode.specs.Halves.{load_longword}
-use Rattle.program_codegen.specs.Words.{plain, holder, copy, width_of, overflow_made, overflow_register, tells_overflow, may_overflow, load_pc, may_trap}
+use Rattle.program_codegen.specs.Words.{plain, holder, copy, width_of, overflow_made, overflow_register, tells_overflow, may_overflow, load_by, may_trap}
 use Rattle.program_codegen.specs.Programs.{IsExit, is_narrow}
 use Rattle.program_codegen.proofs.Numbers.{same_bits, copied}
 use Rattle.program_codegen.proofs.Walk.{Within, next, stands, is_inside, row_words, row_rest, row_length}
@@ -95,20 +96,21 @@ pub record Overflows (site : Site) (known : Known) (standing : Standing) (found 
   pub psw_fits : same known.psw (is_from_psw site.sources.nzv) ≡ true
   pub overflowed : known.codes ≡ true → known.psw ≡ false → bit standing.overflowed ≡ flag_of 2 standing.state.psw
   pub no_overflow : known.codes ≡ false → standing.overflowed ≡ false
-  pub signs : SignsComeFrom site.sources.nzv found standing.state.psw standing.temps
+  pub temps : Temps
+  pub signs : SignsComeFrom site.sources.nzv found standing.state.psw temps
 
 -- no source but that of a sum, a difference or a computed result lets V be 1
-kept_zero : (source : CodeSource) (known : Known) (standing : Standing) (found : ℕ) → may_overflow source ≡ false → same known.codes (is_from_values source) ≡ true → same known.psw (is_from_psw source) ≡ true
+kept_zero : (source : CodeSource) (known : Known) (standing : Standing) (temps : Temps) (found : ℕ) → may_overflow source ≡ false → same known.codes (is_from_values source) ≡ true → same known.psw (is_from_psw source) ≡ true
     → (known.codes ≡ true → known.psw ≡ false → bit standing.overflowed ≡ flag_of 2 standing.state.psw) → (known.codes ≡ false → standing.overflowed ≡ false)
-    → SignsComeFrom source found standing.state.psw standing.temps → standing.overflowed ≡ false
-kept_zero Kept known standing found e codes psw over none signs = none (same_false known.codes codes)
-kept_zero Zero known standing found e codes psw over none signs = not_set standing.overflowed (flag_of 2 standing.state.psw) (over (same_true known.codes codes) (same_false known.psw psw)) signs.2
-kept_zero (Result size) known standing found e codes psw over none signs = not_set standing.overflowed (flag_of 2 standing.state.psw) (over (same_true known.codes codes) (same_false known.psw psw)) signs.1.2
-kept_zero (Add size) known standing found e codes psw over none signs = absurd (cc e)
-kept_zero (Sub size) known standing found e codes psw over none signs = absurd (cc e)
-kept_zero (Compare size) known standing found e codes psw over none signs = not_set standing.overflowed (flag_of 2 standing.state.psw) (over (same_true known.codes codes) (same_false known.psw psw)) signs.1.2
-kept_zero (Computed size) known standing found e codes psw over none signs = absurd (cc e)
-kept_zero Psw known standing found e codes psw over none signs = none (same_false known.codes codes)
+    → SignsComeFrom source found standing.state.psw temps → standing.overflowed ≡ false
+kept_zero Kept known standing temps found e codes psw over none signs = none (same_false known.codes codes)
+kept_zero Zero known standing temps found e codes psw over none signs = not_set standing.overflowed (flag_of 2 standing.state.psw) (over (same_true known.codes codes) (same_false known.psw psw)) signs.2
+kept_zero (Result size) known standing temps found e codes psw over none signs = not_set standing.overflowed (flag_of 2 standing.state.psw) (over (same_true known.codes codes) (same_false known.psw psw)) signs.1.2
+kept_zero (Add size) known standing temps found e codes psw over none signs = absurd (cc e)
+kept_zero (Sub size) known standing temps found e codes psw over none signs = absurd (cc e)
+kept_zero (Compare size) known standing temps found e codes psw over none signs = not_set standing.overflowed (flag_of 2 standing.state.psw) (over (same_true known.codes codes) (same_false known.psw psw)) signs.1.2
+kept_zero (Computed size) known standing temps found e codes psw over none signs = absurd (cc e)
+kept_zero Psw known standing temps found e codes psw over none signs = none (same_false known.codes codes)
 
 -- the registers that are changed before the trap
 abbrev pub changed_for_trap : ℕ → Bool
@@ -133,7 +135,7 @@ module _ (p : Placement) (site : Site) (known : Known) (standing : Standing) (fo
   untrapped regs c e = by (may_overflow site.sources.nzv) refl e
     where
       by : (may : Bool) → may_overflow site.sources.nzv ≡ may → (if may then tells_overflow site.behind.v else false) ≡ false → standing.overflowed ≡ false
-      by false is e = kept_zero site.sources.nzv known standing found is o.codes_fit o.psw_fits o.overflowed o.no_overflow o.signs
+      by false is e = kept_zero site.sources.nzv known standing o.temps found is o.codes_fit o.psw_fits o.overflowed o.no_overflow o.signs
       by true is e =
           let told = told_zero site.behind.v (regs 28) (regs 29) e in
           let v = ap (λ (f : Flags). f.v) c.codes in
@@ -205,21 +207,24 @@ module _ (p : Placement) (site : Site) (known : Known) (standing : Standing) (fo
     makes need pc rest t rule is tells narrow w some behind = absurd (cc tells)
 
 -- ---- the PC behind the instruction
+abbrev pub pc_left_by : BranchOp → Site → Standing → Exit → ℕ
+pc_left_by op site standing exits.Next = site.after
+pc_left_by op site standing (exits.Fixed address) = address
+pc_left_by op site standing (exits.Computed temp) = standing.temps temp % 2 ^ 32
+pc_left_by op site standing (exits.Choice when chosen other) = if taken op (standing.temps when) then other else chosen
+pc_left_by op site standing (exits.Service temp) = site.after
+pc_left_by op site standing exits.Breakpoint = site.after
+
 abbrev pub pc_left : Site → Standing → Exit → ℕ
-pc_left site standing exits.Next = site.after
-pc_left site standing (exits.Fixed address) = address
-pc_left site standing (exits.Computed temp) = standing.temps temp % 2 ^ 32
-pc_left site standing (exits.Choice when taken other) = if standing.temps when == 0 then other else taken
-pc_left site standing (exits.Service temp) = site.after
-pc_left site standing exits.Breakpoint = site.after
+pc_left site standing exit = pc_left_by Beq site standing exit
 
 -- the temporary that an exit goes by is held
 abbrev pub ExitHolds : Known → Exit → Type 0
 ExitHolds known (exits.Computed temp) = exit_holds known temp ≡ true
-ExitHolds known (exits.Choice when taken other) = exit_holds known when ≡ true
+ExitHolds known (exits.Choice when chosen other) = exit_holds known when ≡ true
 ExitHolds known exit = Unit {0}
 
-module _ (p : Placement) (site : Site) (known : Known) (standing : Standing) (after_fits : site.after < 2 ^ 32) where
+module _ (p : Placement) (site : Site) (known : Known) (standing : Standing) (after_fits : site.after < 2 ^ 32) (op : BranchOp) (unlinked : links op ≡ false) where
   -- two words that load an address
   loads_address : (need pc address : ℕ) (rest : List Line) (regs : Regs) (t : Tree) → Within p site.behind pc (map plain (load_longword 26 address) ++ rest) → 1 ≤ length rest → regs 31 ≡ 0 → address < 2 ^ 32
       → ((g : Regs) → Only (λ n. n == 26) regs g → g 26 % 2 ^ 32 ≡ address → Always p None need (at_place g (pc + 2)) t) → Always p None (2 + need) (at_place regs pc) t
@@ -229,9 +234,9 @@ module _ (p : Placement) (site : Site) (known : Known) (standing : Standing) (af
       (loads p site need pc address rest regs t w some zero_reads lt (λ g only low w'. subst (λ q. Always p None need (at_place g q) t) (sym two) (behind g only low)))
 
   pub loads_pc : (need pc : ℕ) (exit : Exit) (rest : List Line) (regs : Regs) (t : Tree) → Coded p site known standing regs → IsExit exit → ExitHolds known exit
-      → Within p site.behind pc (map plain (load_pc site.after exit) ++ rest) → 1 ≤ length rest
-      → ((g : Regs) → Only (λ n. n == 26) regs g → g 26 % 2 ^ 32 ≡ pc_left site standing exit → Always p None need (at_place g (pc + length (load_pc site.after exit))) t)
-      → Always p None (length (load_pc site.after exit) + need) (at_place regs pc) t
+      → Within p site.behind pc (map plain (load_by op site.after exit) ++ rest) → 1 ≤ length rest
+      → ((g : Regs) → Only (λ n. n == 26) regs g → g 26 % 2 ^ 32 ≡ pc_left_by op site standing exit → Always p None need (at_place g (pc + length (load_by op site.after exit))) t)
+      → Always p None (length (load_by op site.after exit) + need) (at_place regs pc) t
   loads_pc need pc exits.Next rest regs t c is holds w some behind = loads_address need pc site.after rest regs t w some c.form.zero after_fits behind
   loads_pc need pc (exits.Fixed address) rest regs t c is holds w some behind = loads_address need pc address rest regs t w some c.form.zero is behind
   loads_pc need pc (exits.Computed temp) rest regs t c is holds w some behind =
@@ -241,21 +246,21 @@ module _ (p : Placement) (site : Site) (known : Known) (standing : Standing) (af
       roomy p None (need + 1) (1 + need) (at_place regs pc) t (omega arith)
       (goes p None need (at_place regs pc) (at_place (put regs 26 x) (pc + 1)) (copy (holder temp) 26) t (stands p site.behind pc (copy (holder temp) 26) None rest w) refl (omega arith) (is_inside p site.behind pc (pc + 1) _ w (omega arith) (omega arith))
       (behind (put regs 26 x) (λ n out. put_other regs 26 x n out) (ap (λ n. n % 2 ^ 32) (copied (regs (21 + temp)) ∙ value))))
-  loads_pc need pc (exits.Choice when taken other) rest regs t c is holds w some behind = by (standing.temps when == 0) refl behind
+  loads_pc need pc (exits.Choice when chosen other) rest regs t c is holds w some behind = by (taken op (standing.temps when)) refl behind
     where
-      by : (b : Bool) → (standing.temps when == 0) ≡ b → ((g : Regs) → Only (λ n. n == 26) regs g → g 26 % 2 ^ 32 ≡ (if b then other else taken) → Always p None need (at_place g (pc + 6)) t) → Always p None (6 + need) (at_place regs pc) t
+      by : (b : Bool) → taken op (standing.temps when) ≡ b → ((g : Regs) → Only (λ n. n == 26) regs g → g 26 % 2 ^ 32 ≡ (if b then other else chosen) → Always p None need (at_place g (pc + 6)) t) → Always p None (6 + need) (at_place regs pc) t
       by true e behind =
           let end = w.high in
           let near = w.near in
           let value = exit_value p site known standing regs when is.0 holds c in
           let last = map plain (load_longword 26 other) ++ rest in
-          let w1 = next p site.behind pc (Branch Beq (holder when) (pos 3)) None (map plain (load_longword 26 taken) ++ (plain (Branch Br 31 (pos 2)) ∷ last)) w in
-          let w2 = row_rest p site.behind (pc + 1) (load_longword 26 taken) (plain (Branch Br 31 (pos 2)) ∷ last) w1 in
+          let w1 = next p site.behind pc (Branch op (holder when) (pos 3)) None (map plain (load_longword 26 chosen) ++ (plain (Branch Br 31 (pos 2)) ∷ last)) w in
+          let w2 = row_rest p site.behind (pc + 1) (load_longword 26 chosen) (plain (Branch Br 31 (pos 2)) ∷ last) w1 in
           let w3 = next p site.behind (pc + 1 + 2) (Branch Br 31 (pos 2)) None last w2 in
           let jump : target_of pc (pos 3) ≡ pc + 1 + 2 + 1 = omega arith in
           let six : pc + 1 + 2 + 1 + 2 ≡ pc + 6 = omega arith in
           roomy p None (2 + need + 1) (6 + need) (at_place regs pc) t (omega arith)
-          (skips p None (2 + need) (at_place regs pc) Beq (holder when) (pos 3) (pc + 1 + 2 + 1) t (stands p site.behind pc (Branch Beq (holder when) (pos 3)) None _ w) refl (ap (λ n. n == 0) value ∙ e) jump (omega arith)
+          (skips p None (2 + need) (at_place regs pc) op (holder when) (pos 3) (pc + 1 + 2 + 1) t (stands p site.behind pc (Branch op (holder when) (pos 3)) None _ w) unlinked (ap (taken op) value ∙ e) jump (omega arith)
           (is_inside p site.behind pc (pc + 1 + 2 + 1) _ w (omega arith) (omega arith))
           (loads_address need (pc + 1 + 2 + 1) other rest regs t w3 some c.form.zero is.2 (λ g only low. subst (λ q. Always p None need (at_place g q) t) (sym six) (behind g only low))))
       by false e behind =
@@ -263,14 +268,14 @@ module _ (p : Placement) (site : Site) (known : Known) (standing : Standing) (af
           let near = w.near in
           let value = exit_value p site known standing regs when is.0 holds c in
           let last = map plain (load_longword 26 other) ++ rest in
-          let w1 = next p site.behind pc (Branch Beq (holder when) (pos 3)) None (map plain (load_longword 26 taken) ++ (plain (Branch Br 31 (pos 2)) ∷ last)) w in
-          let w2 = row_rest p site.behind (pc + 1) (load_longword 26 taken) (plain (Branch Br 31 (pos 2)) ∷ last) w1 in
+          let w1 = next p site.behind pc (Branch op (holder when) (pos 3)) None (map plain (load_longword 26 chosen) ++ (plain (Branch Br 31 (pos 2)) ∷ last)) w in
+          let w2 = row_rest p site.behind (pc + 1) (load_longword 26 chosen) (plain (Branch Br 31 (pos 2)) ∷ last) w1 in
           let jump : target_of (pc + 1 + 2) (pos 2) ≡ pc + 6 = omega arith in
           let low_end = w2.high in
           roomy p None (2 + (need + 1) + 1) (6 + need) (at_place regs pc) t (omega arith)
-          (passes p None (2 + (need + 1)) (at_place regs pc) Beq (holder when) (pos 3) t (stands p site.behind pc (Branch Beq (holder when) (pos 3)) None _ w) (ap (λ n. n == 0) value ∙ e)
+          (passes p None (2 + (need + 1)) (at_place regs pc) op (holder when) (pos 3) t (stands p site.behind pc (Branch op (holder when) (pos 3)) None _ w) (ap (taken op) value ∙ e)
           (is_inside p site.behind pc (pc + 1) _ w (omega arith) (omega arith))
-          (loads_address (need + 1) (pc + 1) taken (plain (Branch Br 31 (pos 2)) ∷ last) regs t w1 (omega arith) c.form.zero is.1
+          (loads_address (need + 1) (pc + 1) chosen (plain (Branch Br 31 (pos 2)) ∷ last) regs t w1 (omega arith) c.form.zero is.1
           (λ g only low. goes p None need (at_place g (pc + 1 + 2)) (at_place g (pc + 6)) (Branch Br 31 (pos 2)) t (stands p site.behind (pc + 1 + 2) (Branch Br 31 (pos 2)) None last w2) (ap (λ q. Goes (at_place g q)) jump) (omega arith)
           (is_inside p site.behind (pc + 1 + 2) (pc + 6) _ w2 (omega arith) (omega arith)) (behind g only low))))
   loads_pc need pc (exits.Service temp) rest regs t c is holds w some behind = loads_address need pc site.after rest regs t w some c.form.zero after_fits behind

@@ -6,7 +6,7 @@ use Rattle.vax_form.specs.declared.instr.Size.TheVariants.{Byte, Long}
 use Rattle.alpha_encode.specs.declared.instr.AlphaInstr.{AlphaInstr}
 use Rattle.alpha_encode.specs.declared.instr.AlphaInstr.TheVariants.{Branch, Operate, Pal}
 use Rattle.alpha_encode.specs.declared.instr.BranchOp.{BranchOp}
-use Rattle.alpha_encode.specs.declared.instr.BranchOp.TheVariants.{Beq, Blbc}
+use Rattle.alpha_encode.specs.declared.instr.BranchOp.TheVariants.{Beq, Bge, Blbc, Ble}
 use Rattle.alpha_encode.specs.declared.instr.OperateOp.{OperateOp}
 use Rattle.alpha_encode.specs.declared.instr.OperateOp.TheVariants as row
 use Rattle.alpha_encode.specs.declared.instr.Second.{Second}
@@ -36,7 +36,7 @@ use Rattle.alpha_meaning.specs.Loops.{written}
 use Rattle.program_codegen.specs.declared.homes.Homes.{Homes}
 use Rattle.program_codegen.specs.declared.lines.Line.{Line}
 use Rattle.program_codegen.specs.declared.points.Site.{Site}
-use Rattle.program_codegen.specs.Words.{plain, marked, holder, copy, probing, exit_lines, may_trap, read_by, trap_lines, departing, write_by}
+use Rattle.program_codegen.specs.Words.{plain, marked, holder, copy, probing, exit_lines, may_trap, read_by, trap_by, departing_by, write_by}
 
 -- ---- homes
 -- Temporaries 0 to 3 may be the low longword of a register that is extended with its sign: of a VAX register, or of one of
@@ -488,9 +488,37 @@ abbrev pub end_words : Homes → (commit : Option (ℕ × ℕ)) → Exit → (co
 end_words homes commit exit codes =
     with_waiting exit homes homes.before homes.waiting (with_waiting exit homes homes.waiting None (codes ++ commit_words homes commit))
 
+-- A comparison with 0: the branch that is taken just where it gives 0, and the register that is compared.
+abbrev pub zero_test : AlphaInstr → Option (BranchOp × ℕ)
+zero_test (Operate row.Cmplt first (seconds.Register register) to) = if first == ZERO then Some (Ble, register) else None
+zero_test (Operate row.Cmplt first (seconds.Literal value) to) = if value == 0 then Some (Bge, first) else None
+zero_test word = None
+
+-- it is still there at the end: the home of temporary 0, 1 or 2 in its own register, over which the comparison isn't written
+abbrev pub is_number : Homes → (register to : ℕ) → Bool
+is_number homes register to = nat_lt register 24 && stands_in (home_at homes register) register && not (register == to)
+
+abbrev pub choice_by : Homes → (to when taken other : ℕ) → Option (BranchOp × ℕ) → BranchOp × Exit
+choice_by homes to when taken other None = (Beq, Choice when taken other)
+choice_by homes to when taken other (Some test) =
+    if to == holder when && is_number homes test.1 to then (test.0, Choice (test.1 - TEMPORARIES) taken other) else (Beq, Choice when taken other)
+
+abbrev pub choice_at : Homes → (when taken other : ℕ) → (waiting : Option AlphaInstr) → BranchOp × Exit
+choice_at homes when taken other None = (Beq, Choice when taken other)
+choice_at homes when taken other (Some word) = choice_by homes (written word) when taken other (zero_test word)
+
+-- Where such a comparison waits for a choice, the choice goes by the number that is compared, and by the branch that is taken where
+-- the comparison gives 0. So nothing but codes may want what it makes.
+abbrev pub choice_of : Homes → Exit → BranchOp × Exit
+choice_of homes (Choice when taken other) = choice_at homes when taken other homes.waiting
+choice_of homes exit = (Beq, exit)
+
+abbrev pub end_by : Site → Homes → (commit : Option (ℕ × ℕ)) → (choice : BranchOp × Exit) → (codes : List AlphaInstr) → List Line
+end_by site homes commit choice codes =
+    map plain (end_words homes commit choice.1 codes) ++ (trap_by choice.0 site choice.1 ++ departing_by choice.0 site choice.1)
+
 abbrev pub end_lines : Site → Homes → (commit : Option (ℕ × ℕ)) → Exit → (codes : List AlphaInstr) → List Line
-end_lines site homes commit exit codes =
-    map plain (end_words homes commit exit codes) ++ (trap_lines site exit ++ departing site exit)
+end_lines site homes commit exit codes = end_by site homes commit (choice_of homes exit) codes
 
 -- V that an instruction makes by itself is read in the register of temporary 3
 abbrev pub is_made_there : CodeSource → Bool

@@ -13,6 +13,7 @@ use Rattle.alpha_encode.specs.declared.instr.AlphaInstr.{AlphaInstr}
 use Rattle.alpha_encode.specs.declared.instr.AlphaInstr.TheVariants.{Memory, Branch, Operate, Pal}
 use Rattle.alpha_encode.specs.Calls.{PROBE, LOOK_UP, SERVE, RAISE, TRAP}
 use Rattle.alpha_encode.specs.Registers.{OVERFLOW, STATUS, TEMPORARIES, TARGET, ADDRESS, RULE_FIRST, RULE_SECOND, ZERO}
+use Rattle.alpha_encode.specs.declared.instr.BranchOp.{BranchOp}
 use Rattle.alpha_encode.specs.declared.instr.BranchOp.TheVariants.{Br, Beq}
 use Rattle.alpha_encode.specs.declared.instr.MemoryOp.TheVariants.{Lda}
 use Rattle.alpha_encode.specs.declared.instr.OperateOp.TheVariants.{Addl, And, Bis}
@@ -108,17 +109,17 @@ may_overflow (sources.Sub size) = true
 may_overflow (sources.Computed size) = true
 may_overflow source = false
 
--- the PC behind the instruction, in R26
-abbrev pub load_pc : (after : ℕ) → Exit → List AlphaInstr
-load_pc after (Fixed address) = load_longword TARGET address
-load_pc after (Computed temp) = copy (holder temp) TARGET ∷ []
-load_pc after (Choice when taken other) =
-    Branch Beq (holder when) (pos 3) ∷ (load_longword TARGET taken ++ (Branch Br ZERO (pos 2) ∷ load_longword TARGET other))
-load_pc after exit = load_longword TARGET after
+-- The PC behind the instruction, in R26. A choice takes the other of its addresses where the branch on its register is taken.
+abbrev pub load_by : BranchOp → (after : ℕ) → Exit → List AlphaInstr
+load_by op after (Fixed address) = load_longword TARGET address
+load_by op after (Computed temp) = copy (holder temp) TARGET ∷ []
+load_by op after (Choice when taken other) =
+    Branch op (holder when) (pos 3) ∷ (load_longword TARGET taken ++ (Branch Br ZERO (pos 2) ∷ load_longword TARGET other))
+load_by op after exit = load_longword TARGET after
 
 -- integer overflow has the type 1
-abbrev pub overflow_lines : Site → Exit → List Line
-overflow_lines site exit = map plain (load_pc site.after exit) ++ (plain (Memory Lda TEMPORARIES ZERO (pos 1)) ∷ marked (Pal TRAP) (trapping site) ∷ [])
+abbrev pub overflow_by : BranchOp → Site → Exit → List Line
+overflow_by op site exit = map plain (load_by op site.after exit) ++ (plain (Memory Lda TEMPORARIES ZERO (pos 1)) ∷ marked (Pal TRAP) (trapping site) ∷ [])
 
 -- where IV, bit 5 of R20, is clear, words are passed over
 abbrev pub enabled_lines : (over : ℕ) → List Line
@@ -141,8 +142,12 @@ tested_lines rule made trap = made_lines rule made trap
 abbrev pub may_trap : Site → Bool
 may_trap site = if may_overflow site.sources.nzv then tells_overflow site.behind.v else false
 
+abbrev pub trap_by : BranchOp → Site → Exit → List Line
+trap_by op site exit = if may_trap site then tested_lines site.behind.v (overflow_made site.behind.v) (overflow_by op site exit) else []
+
+-- where a program chooses, it takes the other address if its temporary is 0
 abbrev pub trap_lines : Site → Exit → List Line
-trap_lines site exit = if may_trap site then tested_lines site.behind.v (overflow_made site.behind.v) (overflow_lines site exit) else []
+trap_lines site exit = trap_by Beq site exit
 
 -- ---- leaving
 -- a service has its code in R21, where temporary 0 stands, and the PC behind it in R26
@@ -153,13 +158,16 @@ abbrev pub serving : Site → List Line
 serving site = map plain (load_longword TARGET site.after) ++ (marked (Pal SERVE) (point_of site) ∷ exit_lines site.after)
 
 -- a computed exit looks its address up in R26
+abbrev pub departing_by : BranchOp → Site → Exit → List Line
+departing_by op site Next = exit_lines site.after
+departing_by op site (Fixed address) = exit_lines address
+departing_by op site (Computed temp) = plain (copy (holder temp) TARGET) ∷ plain (Pal LOOK_UP) ∷ []
+departing_by op site (Choice when taken other) = plain (Branch op (holder when) (pos 3)) ∷ (exit_lines taken ++ exit_lines other)
+departing_by op site (Service temp) = code_copied (temp == 0) temp ++ serving site
+departing_by op site Breakpoint = marked (Pal RAISE) (raising site 0x2C) ∷ []
+
 abbrev pub departing : Site → Exit → List Line
-departing site Next = exit_lines site.after
-departing site (Fixed address) = exit_lines address
-departing site (Computed temp) = plain (copy (holder temp) TARGET) ∷ plain (Pal LOOK_UP) ∷ []
-departing site (Choice when taken other) = plain (Branch Beq (holder when) (pos 3)) ∷ (exit_lines taken ++ exit_lines other)
-departing site (Service temp) = code_copied (temp == 0) temp ++ serving site
-departing site Breakpoint = marked (Pal RAISE) (raising site 0x2C) ∷ []
+departing site exit = departing_by Beq site exit
 
 abbrev pub leaving : Site → (codes : List AlphaInstr) → Exit → List Line
 leaving site codes exit = map plain codes ++ (trap_lines site exit ++ departing site exit)

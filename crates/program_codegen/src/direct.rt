@@ -1,7 +1,7 @@
 // The words of programs whose operands are used where they stand.
 ghost use Rattle.std.specs.Prelude.{◌≡◌, ◌++◌, ◌∷◌, IfOk, IfSome, OnOk, MatchOption, None, Some, map, true};
 ghost use Rattle.program_codegen.specs.Words.{plain};
-ghost use Rattle.program_codegen.specs.Homes.{is_operand, is_operand_second, second_home, is_choice, unmoved, moved_operand, moved_both, moved_first, moved_by, is_raised, raised_at, raised_second, with_raised, have_homes, raised_home, compared_raised, moved_word, moved_step, moved_words, is_short_rule, are_short_rules, is_wordless, exit_of, exit_behind, with_commit, end_at, exit_stays, commit_stays, commit_words, is_made_there, are_left, may_end, direct_end, ended_lines, goes_on, homes_at, step_at, lines_at, direct_lines, no_homes, AreHomes, end_words};
+ghost use Rattle.program_codegen.specs.Homes.{is_operand, is_operand_second, second_home, is_choice, unmoved, moved_operand, moved_both, moved_first, moved_by, is_raised, raised_at, raised_second, with_raised, have_homes, raised_home, compared_raised, moved_word, moved_step, moved_words, is_short_rule, are_short_rules, is_wordless, exit_of, exit_behind, with_commit, end_at, exit_stays, commit_stays, commit_words, is_made_there, are_left, may_end, direct_end, end_lines, ended_lines, goes_on, homes_at, step_at, lines_at, direct_lines, no_homes, AreHomes, end_words};
 ghost use Rattle.program_codegen.specs.Programs.{AllFitWords, HasWords, IsExit, IsRanged, IsRangedExit, RangedToLeave, is_narrow};
 
 use crate::homes::{Homes, NO_HOMES, home_at, home_of, is_direct, push_direct, stands_in};
@@ -10,7 +10,7 @@ use crate::lines::{Line, holder, push_words};
 use crate::points::Site;
 use crate::reached::reach;
 use crate::spared::end_words;
-use crate::tested::tested_at;
+use crate::tested::{choice_of, tested_at};
 use alpha_encode::registers::{CARRY_FIRST, CARRY_SECOND, RULE_FIRST, RULE_SECOND, TEMPORARIES};
 use alpha_encode::{AlphaInstr, OperateOp, Second, operate, operate_by};
 use exception_records::{CodeRule, Rules};
@@ -410,6 +410,29 @@ fn may_end(site: Site, homes: Homes, commit: Commit, exit: Exit) -> bool
         && are_short_rules(site.behind)
 }
 
+/// The words up to the one that writes the register, the trap on overflow, and the exits.
+fn end_lines(
+    alloc: Global,
+    site: Site,
+    homes: Homes,
+    commit: Commit,
+    exit: Exit,
+    codes: &[AlphaInstr],
+) -> Result<Vec<Line>, WantOfMemory>
+    requires commit { commit_stays commit ≡ true }
+    requires exit { IsExit exit }
+    requires narrow { is_narrow site.behind.v ≡ true }
+    ensures { IfOk result (λ lines. lines.items ≡ end_lines site homes commit exit codes.now) }
+{
+    let (op, exit) = choice_of(homes, exit);
+    let words = end_words(alloc, homes, commit, exit, codes)?;
+    let mut lines = Vec::new(alloc);
+    push_words(&mut lines, &words)?;
+    push_trap(alloc, &mut lines, site, op, exit)?;
+    push_departing(&mut lines, site, op, exit)?;
+    Ok(lines)
+}
+
 /// The words for the codes, the register that is written, the trap on overflow, and the exits.
 fn direct_end(
     alloc: Global,
@@ -429,12 +452,7 @@ fn direct_end(
     let Some(moved) = moved_words(alloc, homes, codes)? else {
         return Ok(None);
     };
-    let words = end_words(alloc, homes, commit, exit, &moved)?;
-    let mut lines = Vec::new(alloc);
-    push_words(&mut lines, &words)?;
-    push_trap(alloc, &mut lines, site, exit)?;
-    push_departing(&mut lines, site, exit)?;
-    Ok(Some(lines))
+    Ok(Some(end_lines(alloc, site, homes, commit, exit, &moved)?))
 }
 
 fn with_commit(commit: Commit, exit: Option<Exit>) -> Option<(Commit, Exit)>

@@ -1,6 +1,6 @@
 // The end of a block: the trap on overflow, and the exits.
 ghost use Rattle.std.specs.Prelude.{◌≡◌, ◌++◌, ◌≤◌, length, map, OnOk, IfOk, true};
-ghost use Rattle.program_codegen.specs.Words.{plain, width_of, overflow_made, overflow_register, tells_overflow, may_overflow, load_pc, overflow_lines, enabled_lines, tested_lines, may_trap, trap_lines, departing, leaving};
+ghost use Rattle.program_codegen.specs.Words.{plain, width_of, overflow_made, overflow_register, tells_overflow, may_overflow, load_by, overflow_by, enabled_lines, tested_lines, may_trap, trap_by, departing, departing_by, leaving};
 ghost use Rattle.program_codegen.specs.Programs.{IsExit, is_narrow};
 
 use crate::lines::{Line, RAISE, copy, holder, marked, plain, push_exit, push_words};
@@ -94,10 +94,10 @@ fn may_overflow(source: CodeSource) -> bool
     )
 }
 
-/// The PC behind the instruction, into R26.
-fn push_pc(lines: &mut Vec<Line>, after: u32, exit: Exit) -> Result<(), AllocError>
+/// The PC behind the instruction, into R26. A choice takes the other of its addresses where the branch is taken.
+fn push_pc(lines: &mut Vec<Line>, op: BranchOp, after: u32, exit: Exit) -> Result<(), AllocError>
     requires { IsExit exit }
-    ensures { OnOk result (lines.new.items ≡ lines.old.items ++ map plain (load_pc after exit)) }
+    ensures { OnOk result (lines.new.items ≡ lines.old.items ++ map plain (load_by op after exit)) }
 {
     match exit {
         Exit::Fixed(address) => push_words(lines, &load_longword(TARGET, address)),
@@ -108,7 +108,7 @@ fn push_pc(lines: &mut Vec<Line>, after: u32, exit: Exit) -> Result<(), AllocErr
             push_words(
                 lines,
                 &[
-                    branch(BranchOp::Beq, holder(when), 3),
+                    branch(op, holder(when), 3),
                     taken_high,
                     taken_low,
                     branch(BranchOp::Br, ZERO, 2),
@@ -124,13 +124,18 @@ fn push_pc(lines: &mut Vec<Line>, after: u32, exit: Exit) -> Result<(), AllocErr
 }
 
 /// The words of the trap.
-fn overflow_lines(alloc: Global, site: Site, exit: Exit) -> Result<Vec<Line>, AllocError>
+fn overflow_lines(
+    alloc: Global,
+    site: Site,
+    op: BranchOp,
+    exit: Exit,
+) -> Result<Vec<Line>, AllocError>
     requires { IsExit exit }
-    ensures lines { IfOk result (λ lines. lines.items ≡ overflow_lines site exit) }
+    ensures lines { IfOk result (λ lines. lines.items ≡ overflow_by op site exit) }
     ensures few { IfOk result (λ lines. length lines.items ≤ 8) }
 {
     let mut lines = Vec::new(alloc);
-    push_pc(&mut lines, site.after, exit)?;
+    push_pc(&mut lines, op, site.after, exit)?;
     lines.extend_from_slice(&[
         plain(AlphaInstr::Memory {
             op: MemoryOp::Lda,
@@ -188,15 +193,16 @@ pub(crate) fn push_trap(
     alloc: Global,
     lines: &mut Vec<Line>,
     site: Site,
+    op: BranchOp,
     exit: Exit,
 ) -> Result<(), WantOfMemory>
     requires exit { IsExit exit }
     requires narrow { is_narrow site.behind.v ≡ true }
-    ensures { OnOk result (lines.new.items ≡ lines.old.items ++ trap_lines site exit) }
+    ensures { OnOk result (lines.new.items ≡ lines.old.items ++ trap_by op site exit) }
 {
     if may_trap(site) {
         let made = overflow_made(alloc, site.behind.v)?;
-        let trap = overflow_lines(alloc, site, exit)?;
+        let trap = overflow_lines(alloc, site, op, exit)?;
         push_tested(lines, site.behind.v, &made, &trap)?;
     }
     Ok(())
@@ -214,11 +220,17 @@ fn push_service(lines: &mut Vec<Line>, site: Site, temp: u8) -> Result<(), Alloc
     push_exit(lines, site.after)
 }
 
-fn push_choice(lines: &mut Vec<Line>, when: u8, taken: u32, other: u32) -> Result<(), AllocError>
+fn push_choice(
+    lines: &mut Vec<Line>,
+    op: BranchOp,
+    when: u8,
+    taken: u32,
+    other: u32,
+) -> Result<(), AllocError>
     requires { IsExit (Exit.Choice when taken other) }
-    ensures { (site : _) → OnOk result (lines.new.items ≡ lines.old.items ++ departing site (Exit.Choice when taken other)) }
+    ensures { (site : _) → OnOk result (lines.new.items ≡ lines.old.items ++ departing_by op site (Exit.Choice when taken other)) }
 {
-    lines.push(plain(branch(BranchOp::Beq, holder(when), 3)))?;
+    lines.push(plain(branch(op, holder(when), 3)))?;
     push_exit(lines, taken)?;
     push_exit(lines, other)
 }
@@ -226,10 +238,11 @@ fn push_choice(lines: &mut Vec<Line>, when: u8, taken: u32, other: u32) -> Resul
 pub(crate) fn push_departing(
     lines: &mut Vec<Line>,
     site: Site,
+    op: BranchOp,
     exit: Exit,
 ) -> Result<(), AllocError>
     requires { IsExit exit }
-    ensures { OnOk result (lines.new.items ≡ lines.old.items ++ departing site exit) }
+    ensures { OnOk result (lines.new.items ≡ lines.old.items ++ departing_by op site exit) }
 {
     match exit {
         Exit::Next => push_exit(lines, site.after),
@@ -237,7 +250,7 @@ pub(crate) fn push_departing(
         Exit::Computed(temp) => {
             lines.extend_from_slice(&[plain(copy(holder(temp), TARGET)), plain(LOOK_UP)])
         }
-        Exit::Choice { when, taken, other } => push_choice(lines, when, taken, other),
+        Exit::Choice { when, taken, other } => push_choice(lines, op, when, taken, other),
         Exit::Service(temp) => push_service(lines, site, temp),
         Exit::Breakpoint => {
             lines.push(marked(RAISE, raising(site, BREAKPOINT)))?;
@@ -259,7 +272,7 @@ pub(crate) fn push_leaving(
     ensures { OnOk result (lines.new.items ≡ lines.old.items ++ leaving site codes.now exit) }
 {
     push_words(lines, codes)?;
-    push_trap(alloc, lines, site, exit)?;
-    push_departing(lines, site, exit)?;
+    push_trap(alloc, lines, site, BranchOp::Beq, exit)?;
+    push_departing(lines, site, BranchOp::Beq, exit)?;
     Ok(())
 }

@@ -1,17 +1,17 @@
 // Exits that are chosen by what stands in a register.
 ghost use Rattle.std.specs.Prelude.{◌≡◌, ◌≤◌, ◌++◌, ◌∷◌, IfOk, IfSome, MatchOption, OnOk, None, Some, map};
 ghost use Rattle.program_codegen.specs.Words.{plain};
-ghost use Rattle.program_codegen.specs.Homes.{bit_register, bit_test, code_test, byte_test, test_of, choice_lines, may_test, tested_exit, needed_words, tested_words, next_exit, tested_at};
-ghost use Rattle.program_codegen.specs.Programs.{IsRanged, RangedToLeave};
+ghost use Rattle.program_codegen.specs.Homes.{bit_register, bit_test, code_test, byte_test, test_of, choice_lines, may_test, tested_exit, needed_words, tested_words, next_exit, tested_at, zero_test, is_number, choice_of};
+ghost use Rattle.program_codegen.specs.Programs.{IsExit, IsRanged, RangedToLeave};
 
 use crate::direct::{are_left, are_short_rules, exit_of};
-use crate::homes::{Homes, home_of, is_direct, made, push_waiting};
+use crate::homes::{Homes, home_at, home_of, is_direct, made, push_waiting, stands_in};
 use crate::leaving::may_trap;
 use crate::lines::{Line, holder, plain, push_exit, push_words};
 use crate::points::Site;
 use crate::spared::written;
-use alpha_encode::registers::NEGATIVE;
-use alpha_encode::{AlphaInstr, BranchOp, branch};
+use alpha_encode::registers::{NEGATIVE, TEMPORARIES, ZERO};
+use alpha_encode::{AlphaInstr, BranchOp, OperateOp, Second, branch};
 use micro_ops::{Arg, Exit, Micro, MicroOp};
 use std::alloc::{AllocError, Global};
 use vax_form::Size;
@@ -20,6 +20,8 @@ use vax_form::Size;
 const CODES: u8 = 4;
 /// How many temporaries have a register.
 const TEMPORARIES_HELD: u8 = 6;
+/// The registers of the temporaries that may have homes end here.
+const NUMBERS_END: u8 = TEMPORARIES + 3;
 /// The mask of the lowest bit.
 const LOWEST: u64 = 1;
 
@@ -108,6 +110,64 @@ fn push_choice(lines: &mut Vec<Line>, test: Test, taken: u32, other: u32) -> Res
     lines.push(plain(branch(op, register, 3)))?;
     push_exit(lines, taken)?;
     push_exit(lines, other)
+}
+
+/// A comparison with 0: the branch that is taken just where it gives 0, and the register that is compared.
+fn zero_test(word: AlphaInstr) -> Option<Test>
+    ensures { result ≡ zero_test word }
+{
+    match word {
+        AlphaInstr::Operate {
+            op: OperateOp::Cmplt,
+            ra: ZERO,
+            rb: Second::Register(register),
+            ..
+        } => Some((BranchOp::Ble, register)),
+        AlphaInstr::Operate {
+            op: OperateOp::Cmplt,
+            ra,
+            rb: Second::Literal(0),
+            ..
+        } => Some((BranchOp::Bge, ra)),
+        _ => None,
+    }
+}
+
+/// Whether a register that is compared is the home of a temporary, its own, over which the comparison isn't written.
+fn is_number(homes: Homes, register: u8, to: u8) -> bool
+    ensures { result ≡ is_number homes register to }
+{
+    register < NUMBERS_END && stands_in(home_at(homes, register), register) && register != to
+}
+
+/// The exit, and the branch by which it goes if it chooses: where a comparison with 0 waits for it, it goes by the number.
+pub(crate) fn choice_of(homes: Homes, exit: Exit) -> (BranchOp, Exit)
+    requires exit { IsExit exit }
+    ensures choice { result ≡ choice_of homes exit }
+    ensures exit { IsExit result.1 }
+{
+    let Exit::Choice { when, taken, other } = exit else {
+        return (BranchOp::Beq, exit);
+    };
+    let Some(word) = homes.waiting else {
+        return (BranchOp::Beq, exit);
+    };
+    let Some((op, register)) = zero_test(word) else {
+        return (BranchOp::Beq, exit);
+    };
+    let to = written(word);
+    if to != holder(when) || !is_number(homes, register, to) {
+        return (BranchOp::Beq, exit);
+    }
+    let number = register.saturating_sub(TEMPORARIES);
+    (
+        op,
+        Exit::Choice {
+            when: number,
+            taken,
+            other,
+        },
+    )
 }
 
 /// Whether no word leaves a code, and nothing traps.
