@@ -48,7 +48,7 @@ row2 : spelled (block false (sources_of (op.TwoOperands Add Long)) ((Compute 0 c
 unfolding sources_of
 row2 = refl
 
-row3 : spelled (block false (sources_of (op.SubtractOneBranch false)) ((Compute 2 compute.Move sizes.Long (Register 1) (Const 0)) ∷ (Compute 2 compute.Sub sizes.Long (Temp 2) (Const 1)) ∷ (Compute 3 compute.Equal sizes.Long (Temp 2) (Const 2147483647)) ∷ (Compute 0 compute.Less sizes.Long (Const 0) (Temp 2)) ∷ (Commit 1 2) ∷ (Compute 6 compute.ShiftRight sizes.Long (Temp 2) (Const 31)) ∷ (Compute 7 compute.Equal sizes.Long (Temp 2) (Const 0)) ∷ (Codes 6 7 3 None) ∷ (Leave (Choice 0 520 516)) ∷ []) (codes false false false false)) ≡ (0x40203137 ∷ 0x277F8000 ∷ 0x237BFFFF ∷ 0x4AE41738 ∷ 0x4B64173B ∷ 0x431B05B8 ∷ 0x43F709B5 ∷ 0x47F80412 ∷ 0x4AE7F690 ∷ 0x42E015B1 ∷ 0x42E01001 ∷ 0xE640000A ∷ 0x4684101B ∷ 0xE7600008 ∷ 0xE6A00003 ∷ 0x275F0000 ∷ 0x235A0208 ∷ 0xC3E00002 ∷ 0x275F0000 ∷ 0x235A0204 ∷ 0x22BF0001 ∷ 0x00000084 ∷ 0xE6A00003 ∷ 0x47FF041F ∷ 0x47FF041F ∷ 0x47FF041F ∷ 0x47FF041F ∷ 0x47FF041F ∷ 0x47FF041F ∷ [], (0x17, 0x208) ∷ (0x1A, 0x204) ∷ [], point 0x0 0 0 false 0x0 all_ready ∷ point 0x15 1 0 false 0x0 all_ready ∷ [])
+row3 : spelled (block false (sources_of (op.SubtractOneBranch false)) ((Compute 2 compute.Move sizes.Long (Register 1) (Const 0)) ∷ (Compute 2 compute.Sub sizes.Long (Temp 2) (Const 1)) ∷ (Compute 3 compute.Equal sizes.Long (Temp 2) (Const 2147483647)) ∷ (Compute 0 compute.Less sizes.Long (Const 0) (Temp 2)) ∷ (Commit 1 2) ∷ (Compute 6 compute.ShiftRight sizes.Long (Temp 2) (Const 31)) ∷ (Compute 7 compute.Equal sizes.Long (Temp 2) (Const 0)) ∷ (Codes 6 7 3 None) ∷ (Leave (Choice 0 520 516)) ∷ []) (codes false false false false)) ≡ (0x40203137 ∷ 0x277F8000 ∷ 0x237BFFFF ∷ 0x4AE41738 ∷ 0x4B64173B ∷ 0x431B05B8 ∷ 0x47F80412 ∷ 0x4AE7F690 ∷ 0x42E015B1 ∷ 0x42E01001 ∷ 0xE640000A ∷ 0x4684101B ∷ 0xE7600008 ∷ 0xEEE00003 ∷ 0x275F0000 ∷ 0x235A0208 ∷ 0xC3E00002 ∷ 0x275F0000 ∷ 0x235A0204 ∷ 0x22BF0001 ∷ 0x00000084 ∷ 0xEEE00003 ∷ 0x47FF041F ∷ 0x47FF041F ∷ 0x47FF041F ∷ 0x47FF041F ∷ 0x47FF041F ∷ 0x47FF041F ∷ [], (0x16, 0x208) ∷ (0x19, 0x204) ∷ [], point 0x0 0 0 false 0x0 all_ready ∷ point 0x14 1 0 false 0x0 all_ready ∷ [])
 unfolding sources_of
 row3 = refl
 
