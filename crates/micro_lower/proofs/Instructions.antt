@@ -12,10 +12,13 @@ use Rattle.vax_form.specs.declared.operation.Operation.{Operation}
 use Rattle.vax_form.specs.declared.operation.Operation.TheVariants as operations
 use Rattle.vax_form.specs.declared.row.Class.{Class}
 use Rattle.vax_form.specs.declared.row.Class.TheVariants.{Translated, Tie, Reserved}
+use Rattle.vax_meaning.specs.Evaluation.{operand}
+use Rattle.micro_ops.specs.Sources.{sources_of}
 use Rattle.micro_ops.specs.declared.program.Micro.{Micro}
 use Rattle.micro_lower.specs.Lowering.{Lowers, KeepsTo, IsLowered, AreLongOperands, ProgramsAreTranslated}
+use Rattle.micro_lower.specs.Plans.{program_of}
 use Rattle.micro_lower.specs.Programs.{plain_program_of}
-use Rattle.micro_lower.specs.Rows.{move_row, arithmetic_row, control_row, own_program_of, program_of_operation, has_program, program_for}
+use Rattle.micro_lower.specs.Rows.{move_row, arithmetic_row, control_row, own_program_of, program_of_operation, has_program, program_for, arithmetic_shift_plan, literal_shift_by}
 use Rattle.micro_lower.proofs.ByRow.{rows_lower}
 use Rattle.micro_lower.proofs.Covered.{plain_lower}
 use Rattle.micro_lower.proofs.KeptRows.{plain_keep, rows_keep}
@@ -34,6 +37,10 @@ is_lowered_by instr operation program spelled long is made = record {
 }
 
 -- ---- what has a program
+one_of_both : (first : Option (List Micro)) (second : List Micro) → option_or first (Some second) ≡ None → ⊥
+one_of_both None second none = absurd (cc none)
+one_of_both (Some first) second none = absurd (cc none)
+
 lowered_has : (operation : Operation) (instr : Instr) → is_translated (class_of_operation operation) ≡ true → program_of_operation operation instr ≡ None → ⊥
 unfolding class_of_operation plain_program_of own_program_of move_row arithmetic_row control_row
 lowered_has (operations.TwoOperands binary.Add width) instr has none = cc
@@ -50,6 +57,8 @@ lowered_has (operations.ThreeOperands binary.Divide width) instr has none = cc
 lowered_has (operations.ThreeOperands binary.BitSet width) instr has none = cc
 lowered_has (operations.ThreeOperands binary.BitClear width) instr has none = cc
 lowered_has (operations.ThreeOperands binary.ExclusiveOr width) instr has none = cc
+lowered_has operations.ArithmeticShift instr has none =
+    one_of_both (literal_shift_by (operand instr 0) instr) (program_of (sources_of operations.ArithmeticShift) (arithmetic_shift_plan instr) instr) none
 lowered_has _ instr has none = cc
 
 pub program_is : (instr : Instr) (operation : Operation) (program : List Micro) → operation_at instr.opcode ≡ Some operation → program_of_operation operation instr ≡ Some program → program_for instr ≡ Some program

@@ -2,6 +2,7 @@
 use Rattle.std.proofs.Common.{◌≡◌, ℕ, ◌%◌, ◌^◌, Bool, true, false, List, [], ◌∷◌, ◌++◌, Option, Some, None, refl, sym, subst, lit≤}
 use Rattle.std.specs.Prelude.{nat_lt, not, if◌then◌else◌}
 use Rattle.std.proofs.lemmas.Option.{same_Some}
+use Rattle.std.specs.Option.{option_or}
 use Rattle.vax_form.specs.Grammar.{IsSpelled}
 use Rattle.vax_form.specs.Operation.{operation_at}
 use Rattle.vax_form.specs.Row.{operands_of, displacement}
@@ -36,11 +37,12 @@ use Rattle.operand_programs.specs.Operands.{IsTarget}
 use Rattle.micro_lower.specs.Lowering.{AreLongOperands, KeepsTo, computes_address}
 use Rattle.micro_lower.specs.Plans.{Plan, program_of, unary}
 use Rattle.micro_lower.specs.Programs.{flags_of, is_negated, flag_test, condition_exit, branch_if_program, subroutine_program, return_program, plain_program_of}
-use Rattle.micro_lower.specs.Rows.{move_row, is_extension, behind_conversion, arithmetic_row, control_row, own_program_of, row_program_of, branch_exit, move_plan, clear_plan, move_zero_extended_plan, move_complemented_plan, move_negated_plan, convert_plan, move_address_plan, push_address_plan, push_long_plan, compare_plan, test_plan, bit_test_plan, by_one_plan, two_operands_plan, three_operands_plan, low_bit_plan, subtract_one_plan, add_one_plan, add_compare_plan, jump_plan, jump_to_subroutine_plan, add_with_carry_plan, change_mode_plan, subtract_with_carry_plan, rotate_plan, arithmetic_shift_plan, shifted_by, overflow_of_shift_by, before_shift, behind_shift, before_rotation, change_psw_plan, bit_tested, bit_stored, byte_program, before_bit, literal_position, masked, mask_stored, mask_program, byte_of, before_literal, before_bit_at, test_exit, bit_branch_plan, before_aligned, add_aligned_plan, move_psl_plan}
+use Rattle.micro_lower.specs.Rows.{move_row, is_extension, behind_conversion, arithmetic_row, control_row, own_program_of, row_program_of, branch_exit, move_plan, clear_plan, move_zero_extended_plan, move_complemented_plan, move_negated_plan, convert_plan, move_address_plan, push_address_plan, push_long_plan, compare_plan, test_plan, bit_test_plan, by_one_plan, two_operands_plan, three_operands_plan, low_bit_plan, subtract_one_plan, add_one_plan, add_compare_plan, jump_plan, jump_to_subroutine_plan, add_with_carry_plan, change_mode_plan, subtract_with_carry_plan, rotate_plan, arithmetic_shift_plan, literal_shift_by, before_rotation, change_psw_plan, bit_tested, bit_stored, byte_program, before_bit, literal_position, masked, mask_stored, mask_program, byte_of, before_literal, before_bit_at, test_exit, bit_branch_plan, before_aligned, add_aligned_plan, move_psl_plan}
 use Rattle.micro_lower.proofs.Covered.{targeted}
 use Rattle.micro_lower.proofs.Inner.{IsInner, joined}
 use Rattle.micro_lower.proofs.Keeping.{Ends, ExitKeeps, IsFixed, keeps, ends_here, next_keeps, breakpoint_keeps, branch_fixed, fixed_keeps, choice_keeps, choice_kept, computed_keeps, jump_computes_for, jump_keeps, plan_keeps}
 use Rattle.micro_lower.proofs.Lowered.{slots_of, second, third, fourth}
+use Rattle.micro_lower.proofs.LiteralShiftLower.{literal_shift_keeps}
 use Rattle.micro_lower.proofs.ProductLower.{product_keeps}
 use Rattle.micro_lower.proofs.Spelled.{Given, given}
 
@@ -198,18 +200,7 @@ aligned_inner set (operands.Value value) = refl
 aligned_inner set (operands.Place base index) = refl
 aligned_inner set (operands.Target address) = refl
 
--- shifts, by the operand that counts
-shift_inner_by : (set : Flags) (left : Bool) (count : ℕ) → IsInner set (shifted_by left count ++ overflow_of_shift_by left count)
-shift_inner_by set true count = refl
-shift_inner_by set false count = refl
-
-shift_inner : (set : Flags) (count : Operand) → IsInner set (before_shift count ++ behind_shift count)
-shift_inner set (operands.Value literal) = shift_inner_by set (nat_lt (literal % 256) 128) (literal % 256)
-shift_inner set operands.Unused = refl
-shift_inner set (operands.Register n) = refl
-shift_inner set (operands.Place base index) = refl
-shift_inner set (operands.Target address) = refl
-
+-- a rotation, by the operand that counts
 rotation_inner : (set : Flags) (count : Operand) → IsInner set (before_rotation count ++ [])
 rotation_inner set (operands.Value literal) = refl
 rotation_inner set operands.Unused = refl
@@ -248,6 +239,16 @@ unfolding own_program_of move_row arithmetic_row control_row code_use_of
 three_operands_keep binary.Divide width instr program spelled long is row = cc
 three_operands_keep operation width instr program spelled long is row = next_row (operations.ThreeOperands operation width) instr (three_operands_plan operation width instr) program is refl refl refl row
 
+-- by the operand that counts
+shift_keeps : (instr : Instr) (program : List Micro) → operation_at instr.opcode ≡ Some operations.ArithmeticShift
+    → (count : Operand) → option_or (literal_shift_by count instr) (Some (program_of (sources_of operations.ArithmeticShift) (arithmetic_shift_plan instr) instr)) ≡ Some program → KeepsTo instr program
+unfolding code_use_of
+shift_keeps instr program is (operands.Value literal) row = literal_shift_keeps instr program (nat_lt (literal % 256) 128) (literal % 256) is (sym (same_Some _ _ row))
+shift_keeps instr program is operands.Unused row = next_row operations.ArithmeticShift instr (arithmetic_shift_plan instr) program is refl refl refl row
+shift_keeps instr program is (operands.Register n) row = next_row operations.ArithmeticShift instr (arithmetic_shift_plan instr) program is refl refl refl row
+shift_keeps instr program is (operands.Place base index) row = next_row operations.ArithmeticShift instr (arithmetic_shift_plan instr) program is refl refl refl row
+shift_keeps instr program is (operands.Target address) row = next_row operations.ArithmeticShift instr (arithmetic_shift_plan instr) program is refl refl refl row
+
 pub rows_keep : (operation : Operation) → KeepsByRow operation
 unfolding own_program_of move_row arithmetic_row control_row code_use_of operands_of jump_target
 rows_keep (operations.Move size) instr program spelled long is row = next_row (operations.Move size) instr (move_plan size instr) program is refl refl refl row
@@ -268,7 +269,7 @@ rows_keep operations.SubtractWithCarry instr program spelled long is row = next_
 rows_keep operations.AddWithCarry instr program spelled long is row = next_row operations.AddWithCarry instr (add_with_carry_plan instr) program is refl refl refl row
 rows_keep operations.Rotate instr program spelled long is row = next_row operations.Rotate instr (rotate_plan instr) program is (rotation_inner _ (operand instr 0)) refl refl row
 rows_keep operations.AddAlignedWord instr program spelled long is row = next_row operations.AddAlignedWord instr (add_aligned_plan instr) program is (aligned_inner _ (operand instr 1)) refl refl row
-rows_keep operations.ArithmeticShift instr program spelled long is row = next_row operations.ArithmeticShift instr (arithmetic_shift_plan instr) program is (shift_inner _ (operand instr 0)) refl refl row
+rows_keep operations.ArithmeticShift instr program spelled long is row = shift_keeps instr program is (operand instr 0) row
 rows_keep operations.BitSetPsw instr program spelled long is row = next_row operations.BitSetPsw instr (change_psw_plan ops.Or) program is refl refl refl row
 rows_keep operations.BitClearPsw instr program spelled long is row = next_row operations.BitClearPsw instr (change_psw_plan ops.AndNot) program is refl refl refl row
 rows_keep operations.ExtendedMultiply instr program spelled long is row = product_keeps instr program is (sym (same_Some _ _ row))

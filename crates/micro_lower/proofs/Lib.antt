@@ -41,4 +41,6 @@ pub mod AlignedRows
 pub mod AlignedLower
 pub mod ProductRows
 pub mod ProductLower
+pub mod LiteralShifts
+pub mod LiteralShiftLower
 pub mod Ends

@@ -1,5 +1,5 @@
 -- Each row fits a block, with a result in memory or in a register.
-use Rattle.std.proofs.Common.{◌≡◌, ℕ, ◌%◌, Bool, true, false, List, ◌∷◌, Option, Some, None, refl}
+use Rattle.std.proofs.Common.{◌≡◌, ℕ, Bool, true, false, List, ◌∷◌, Option, Some, None, refl}
 use Rattle.std.specs.Prelude.{nat_lt}
 use Rattle.vax_form.specs.declared.instr.Base.{Base}
 use Rattle.vax_form.specs.declared.instr.Instr.{Instr}
@@ -22,7 +22,7 @@ use Rattle.micro_ops.specs.declared.program.Exit.{Exit}
 use Rattle.micro_ops.specs.declared.program.Micro.{Micro}
 use Rattle.micro_ops.specs.declared.program.MicroOp.TheVariants as ops
 use Rattle.operand_programs.specs.Operands.{IsLocated}
-use Rattle.micro_lower.specs.Rows.{divides, move_plan, clear_plan, move_zero_extended_plan, move_complemented_plan, move_negated_plan, convert_plan, move_address_plan, push_address_plan, push_long_plan, compare_plan, test_plan, bit_test_plan, by_one_plan, two_operands_plan, three_operands_plan, low_bit_plan, subtract_one_plan, add_one_plan, add_compare_plan, add_with_carry_plan, change_mode_plan, subtract_with_carry_plan, rotate_plan, arithmetic_shift_plan, shift_plan_with, shifted_by, overflow_of_shift_by, change_psw_plan, test_exit, before_bit, before_literal, literal_position, bit_plan_with, bit_plan_for, bit_branch_plan, move_psl_plan}
+use Rattle.micro_lower.specs.Rows.{divides, move_plan, clear_plan, move_zero_extended_plan, move_complemented_plan, move_negated_plan, convert_plan, move_address_plan, push_address_plan, push_long_plan, compare_plan, test_plan, bit_test_plan, by_one_plan, two_operands_plan, three_operands_plan, low_bit_plan, subtract_one_plan, add_one_plan, add_compare_plan, add_with_carry_plan, change_mode_plan, subtract_with_carry_plan, rotate_plan, arithmetic_shift_plan, change_psw_plan, test_exit, before_bit, before_literal, literal_position, bit_plan_with, bit_plan_for, bit_branch_plan, move_psl_plan}
 use Rattle.micro_lower.proofs.Fit.{having, plan_fits, PlanFits, first_located, second_located, third_located}
 
 pub move_fits : (size : Size) (instr : Instr) → IsLocated (operand instr 1) → plan_fits (sources_of (operations.Move size)) (move_plan size instr) instr ≡ true
@@ -223,41 +223,9 @@ rotation_in_register instr (operands.Target address) b n more = refl
 pub rotate_fits : (instr : Instr) → IsLocated (operand instr 2) → plan_fits (sources_of operations.Rotate) (rotate_plan instr) instr ≡ true
 rotate_fits instr is = third_located (PlanFits (sources_of operations.Rotate) rotate_plan) instr is (rotation_in_memory instr) (rotation_in_register instr)
 
--- by a literal count, whichever way
-abbrev LiteralFits : (left : Bool) → (count : ℕ) → Instr → Type 0
-LiteralFits left count instr = plan_fits (sources_of operations.ArithmeticShift) (shift_plan_with (shifted_by left count) (overflow_of_shift_by left count) instr) instr ≡ true
-
-literal_in_memory : (instr : Instr) (literal : ℕ) (b : Operand) (base : Base) (index : Option ℕ) (more : List Operand) (left : Bool) (count : ℕ)
-    → LiteralFits left count (counted_by instr (operands.Value literal) b (operands.Place base index) more)
-unfolding sources_of step
-literal_in_memory instr literal b base index more true count = refl
-literal_in_memory instr literal b base index more false count = refl
-
-literal_in_register : (instr : Instr) (literal : ℕ) (b : Operand) (n : ℕ) (more : List Operand) (left : Bool) (count : ℕ)
-    → LiteralFits left count (counted_by instr (operands.Value literal) b (operands.Register n) more)
-unfolding sources_of step
-literal_in_register instr literal b n more true count = refl
-literal_in_register instr literal b n more false count = refl
-
-shift_in_memory : (instr : Instr) (count b : Operand) (base : Base) (index : Option ℕ) (more : List Operand)
-    → PlanFits (sources_of operations.ArithmeticShift) arithmetic_shift_plan (counted_by instr count b (operands.Place base index) more)
-unfolding sources_of step
-shift_in_memory instr (operands.Value literal) b base index more = literal_in_memory instr literal b base index more (nat_lt (literal % 256) 128) (literal % 256)
-shift_in_memory instr operands.Unused b base index more = refl
-shift_in_memory instr (operands.Register n) b base index more = refl
-shift_in_memory instr (operands.Place at by) b base index more = refl
-shift_in_memory instr (operands.Target address) b base index more = refl
-
-shift_in_register : (instr : Instr) (count b : Operand) (n : ℕ) (more : List Operand) → PlanFits (sources_of operations.ArithmeticShift) arithmetic_shift_plan (counted_by instr count b (operands.Register n) more)
-unfolding sources_of step
-shift_in_register instr (operands.Value literal) b n more = literal_in_register instr literal b n more (nat_lt (literal % 256) 128) (literal % 256)
-shift_in_register instr operands.Unused b n more = refl
-shift_in_register instr (operands.Register m) b n more = refl
-shift_in_register instr (operands.Place at by) b n more = refl
-shift_in_register instr (operands.Target address) b n more = refl
-
 pub arithmetic_shift_fits : (instr : Instr) → IsLocated (operand instr 2) → plan_fits (sources_of operations.ArithmeticShift) (arithmetic_shift_plan instr) instr ≡ true
-arithmetic_shift_fits instr is = third_located (PlanFits (sources_of operations.ArithmeticShift) arithmetic_shift_plan) instr is (shift_in_memory instr) (shift_in_register instr)
+unfolding sources_of step
+arithmetic_shift_fits instr is = third_located (PlanFits (sources_of operations.ArithmeticShift) arithmetic_shift_plan) instr is (λ a b base index more. refl) (λ a b n more. refl)
 
 pub move_psl_fits : (instr : Instr) → IsLocated (operand instr 0) → plan_fits (sources_of operations.MovePsl) (move_psl_plan instr) instr ≡ true
 unfolding sources_of step

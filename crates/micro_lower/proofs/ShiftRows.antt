@@ -10,8 +10,6 @@ use Rattle.std.proofs.lemmas.Int.{ints, unsigned_abs-mul}
 use Rattle.std.proofs.lemmas.Nat.{mod_below, mul-le}
 use Rattle.std.proofs.Math.Bool.{and-false, and-true}
 use Rattle.vax_form.specs.declared.instr.Instr.{Instr}
-use Rattle.vax_form.specs.declared.instr.Operand.{Operand}
-use Rattle.vax_form.specs.declared.instr.Operand.TheVariants as operands
 use Rattle.vax_form.specs.declared.instr.Size.TheVariants.{Byte, Long, Quad}
 use Rattle.vax_form.specs.declared.operation.Operation.TheVariants as operations
 use Rattle.vax_meaning.specs.Arithmetic.{shift_of, give_coded}
@@ -27,10 +25,9 @@ use Rattle.micro_ops.specs.Values.{value_from}
 use Rattle.micro_ops.specs.declared.codes.CodeSource.TheVariants.{Computed, Zero}
 use Rattle.micro_ops.specs.declared.program.Exit.TheVariants.{Next}
 use Rattle.micro_ops.proofs.Sizes.{low_below}
-use Rattle.operand_programs.specs.Pieces.{IsKnownValue}
 use Rattle.operand_programs.specs.Results.{IsGivable}
-use Rattle.micro_lower.specs.Plans.{Plan, steps_of}
-use Rattle.micro_lower.specs.Rows.{shifted as shifted_program, shifted_by, overflow_of_shift, overflow_of_shift_by, before_shift, behind_shift, shift_plan_with, arithmetic_shift_plan}
+use Rattle.micro_lower.specs.Plans.{steps_of}
+use Rattle.micro_lower.specs.Rows.{arithmetic_shift_plan}
 use Rattle.micro_lower.proofs.Endings.{found_at}
 use Rattle.micro_lower.proofs.Fitting.{value_below, product_wide}
 use Rattle.micro_lower.proofs.Overflow.{fits_where, low_of, signed_small, turned}
@@ -44,7 +41,7 @@ use Rattle.micro_lower.proofs.Ready.{effect}
 abbrev lacking : ℕ → ℕ
 lacking c = (0 % 256 + (256 - c % 256)) % 256
 
-sign_left : (x : ℕ) → x < 2 ^ 32 → (if nat_lt x (2 ^ 32 / 2) then 0 else 2 ^ 32 - 1) ≡ value_of 4 (int_div_euclid (signed_value 4 x) (pos (2 ^ 31)))
+pub sign_left : (x : ℕ) → x < 2 ^ 32 → (if nat_lt x (2 ^ 32 / 2) then 0 else 2 ^ 32 - 1) ≡ value_of 4 (int_div_euclid (signed_value 4 x) (pos (2 ^ 31)))
 sign_left x lt = grind (arith, nat_tests, ints)
 
 to_left : (x c : ℕ) → x < 2 ^ 32 → (if nat_lt c 32 then x * 2 ^ c % 2 ^ 32 else 0) % 2 ^ 32 ≡ (left_shift_of x c).value
@@ -139,7 +136,7 @@ fits_below x c lt below =
 high_half : (x : ℕ) → x < 2 ^ 32 → sign_extended x 32 * 2 ^ 32 % 2 ^ 64 ≡ x * 2 ^ 32
 high_half x lt = grind (arith, nat_tests)
 
-low_none : (x : ℕ) → x * 2 ^ 32 % 2 ^ 32 ≡ 0
+pub low_none : (x : ℕ) → x * 2 ^ 32 % 2 ^ 32 ≡ 0
 low_none x = omega arith
 
 none_where : (x : ℕ) → (x * 2 ^ 32 == 0) ≡ (x == 0)
@@ -158,7 +155,7 @@ fits_above x c lt above =
     ∙ none_where x
     ∙ negated _ _ (shifted_out x c lt (omega (arith, above)))
 
-fits_so : (x c : ℕ) → x < 2 ^ 32 → (let y = sign_extended x 32 * 2 ^ min c 32 % 2 ^ 64 in (y == sign_extended (y % 2 ^ 32) 32) ≡ fits 4 (signed_value 4 x *ℤ pos (2 ^ c)))
+pub fits_so : (x c : ℕ) → x < 2 ^ 32 → (let y = sign_extended x 32 * 2 ^ min c 32 % 2 ^ 64 in (y == sign_extended (y % 2 ^ 32) 32) ≡ fits 4 (signed_value 4 x *ℤ pos (2 ^ c)))
 fits_so x c lt = elim (cases_lt c 32) [
   | inl below ↦ (let m : min c 32 ≡ c = omega (arith, below) in rw m (fits_below x c lt below))
   | inr above ↦ (let m : min c 32 ≡ 32 = omega (arith, above) in rw m (fits_above x c lt above))
@@ -199,7 +196,7 @@ overflow_made x c lt small =
     (and_not n (nat_le 128 c) ∙ ap bit (overflows x c lt small))
 
 -- N, Z and C
-either_coded : (left : Bool) (x c : ℕ) → (let s = (if left then left_shift_of x c else coded_value 4 (right_shift_of x (256 - c)) false false) in
+pub either_coded : (left : Bool) (x c : ℕ) → (let s = (if left then left_shift_of x c else coded_value 4 (right_shift_of x (256 - c)) false false) in
     (s.n ≡ nat_le (2 ^ 31) s.value) × (s.z ≡ (s.value == 0)) × (s.c ≡ false))
 unfolding left_shift_of
 either_coded true x c = (refl, refl, refl)
@@ -210,10 +207,10 @@ chosen_below true x y = low_below Long x
 chosen_below false x y = low_below Long y
 
 -- by a count that is computed
-counted_all : (instr : Instr) → IsGivable (operand instr 2) Long → AllDo operations.ArithmeticShift instr (shift_plan_with shifted_program overflow_of_shift instr)
+pub arithmetic_shift_all : (instr : Instr) → IsGivable (operand instr 2) Long → AllDo operations.ArithmeticShift instr (arithmetic_shift_plan instr)
 unfolding body give_coded sources_of value_from
-counted_all instr givable state pages thread temps values ok same left =
-    let plan = shift_plan_with shifted_program overflow_of_shift instr in
+arithmetic_shift_all instr givable state pages thread temps values ok same left =
+    let plan = arithmetic_shift_plan instr in
     let found = found_at state instr.after in
     let after = effect plan.before found temps in
     let x = temps 1 % 2 ^ 32 in
@@ -229,112 +226,3 @@ counted_all instr givable state pages thread temps values ok same left =
     at givable made fits refl
     ((((rw made fits, rw made codes.0, rw made codes.1), v)), codes.2) Next tt instr.after refl
     (coded_end_of pages coded instr.after) (λ s e. refl))
-
--- ---- by a literal count
-to_left_once : (x c : ℕ) → (if nat_lt c 32 then x * 2 ^ c % 2 ^ 32 else 0) ≡ (left_shift_of x c).value
-unfolding left_shift_of
-to_left_once x c = elim (cases_lt c 32) [
-  | inl below ↦ (let t : nat_lt c 32 ≡ true = grind (arith, nat_tests) in
-      let u : nat_lt 31 c ≡ false = grind (arith, nat_tests) in
-      rw (t, u) refl)
-  | inr above ↦ (let t : nat_lt c 32 ≡ false = grind (arith, nat_tests) in
-      let u : nat_lt 31 c ≡ true = grind (arith, nat_tests) in
-      rw (t, u) refl)
-]
-
-to_right_once : (x n : ℕ) → x < 2 ^ 32
-    → (if nat_lt n 32 then value_of 4 (int_div_euclid (signed_value 4 x) (pos (2 ^ n))) else (if nat_lt x (2 ^ 32 / 2) then 0 else 2 ^ 32 - 1)) ≡ right_shift_of x n
-to_right_once x n lt = elim (cases_lt n 32) [
-  | inl below ↦ (let t : nat_lt n 32 ≡ true = grind (arith, nat_tests) in
-      let m : min n 31 ≡ n = omega (arith, below) in
-      rw (t, m) refl)
-  | inr above ↦ (let t : nat_lt n 32 ≡ false = grind (arith, nat_tests) in
-      let m : min n 31 ≡ 31 = omega (arith, above) in
-      rw (t, m) (sign_left x lt))
-]
-
-left_made : (x c : ℕ) → c < 256 → nat_lt c 128 ≡ true → (if nat_lt (c % 2 ^ 32) 32 then x * 2 ^ (c % 2 ^ 32) % 2 ^ 32 else 0) ≡ (shift_of x c).value
-left_made x c small is = let same : c % 2 ^ 32 ≡ c = omega (arith, small) in rw (same, is) (to_left_once x c)
-
-right_made : (x c : ℕ) → x < 2 ^ 32 → c < 256 → nat_lt c 128 ≡ false
-    → (if nat_lt ((256 - c) % 2 ^ 32) 32 then value_of 4 (int_div_euclid (signed_value 4 x) (pos (2 ^ ((256 - c) % 2 ^ 32)))) else (if nat_lt x (2 ^ 32 / 2) then 0 else 2 ^ 32 - 1)) ≡ (shift_of x c).value
-right_made x c lt small is = let same : (256 - c) % 2 ^ 32 ≡ 256 - c = omega (arith, small) in rw (same, is) (to_right_once x (256 - c) lt)
-
-left_below : (b : Bool) (y : ℕ) → (if b then y % 2 ^ 32 else 0) < 2 ^ 32
-left_below true y = low_below Long y
-left_below false y = lit< tt
-
-overflow_left : (x c : ℕ) → x < 2 ^ 32 → nat_lt c 128 ≡ true
-    → (let m = min c 32 % 2 ^ 64 in
-    let y = (if nat_lt m 64 then sign_extended x 32 % 2 ^ 64 * 2 ^ m % 2 ^ 64 else 0) in
-    bit_xor (bit (y % 2 ^ 64 == sign_extended (y % 2 ^ 32) 32 % 2 ^ 64) % 256) 1 ≡ bit (shift_of x c).v)
-unfolding left_shift_of
-overflow_left x c lt is =
-    let s = sign_extended x 32 in
-    let y = s * 2 ^ min c 32 % 2 ^ 64 in
-    let below : s % 2 ^ 64 ≡ s = mod-eq_of_lt (extended_below Long x lt) in
-    let m : min c 32 ≤ 32 = omega arith in
-    let same : min c 32 % 2 ^ 64 ≡ min c 32 = omega (arith, m) in
-    let t : nat_lt (min c 32) 64 ≡ true = lt-ltb (min c 32) 64 (omega (arith, m)) in
-    let once : y % 2 ^ 64 ≡ y = mod-eq_of_lt (mod_below (s * 2 ^ min c 32) (2 ^ 64) (lit< tt)) in
-    let again : sign_extended (y % 2 ^ 32) 32 % 2 ^ 64 ≡ sign_extended (y % 2 ^ 32) 32 = mod-eq_of_lt (extended_below Long (y % 2 ^ 32) (low_below Long y)) in
-    rw (same, t, below, once, again, fits_so x c lt, is) (flipped (fits 4 (signed_value 4 x *ℤ pos (2 ^ c))))
-
-module _ (instr : Instr) (givable : IsGivable (operand instr 2) Long) (literal : ℕ) (here : operand instr 0 ≡ operands.Value literal) where
-  abbrev count : ℕ
-  count = literal % 256
-
-  abbrev literal_plan : Bool → Plan
-  literal_plan left = shift_plan_with (shifted_by left count) (overflow_of_shift_by left count) instr
-
-  literal_all : (left : Bool) → nat_lt count 128 ≡ left → AllDo operations.ArithmeticShift instr (literal_plan left)
-  unfolding body give_coded sources_of value_from
-  literal_all true is state pages thread temps values ok same left =
-      let plan = literal_plan true in
-      let found = found_at state instr.after in
-      let after = effect plan.before found temps in
-      let x = temps 1 % 2 ^ 32 in
-      let coded = shift_of x (temps 0 % 2 ^ 8) in
-      let lt : x < 2 ^ 32 = low_below Long (temps 1) in
-      let small : count < 256 = mod_below literal 256 (lit< tt) in
-      let codes = either_coded (nat_lt (temps 0 % 2 ^ 8) 128) x (temps 0 % 2 ^ 8) in
-      let known : temps 0 ≡ count = subst (λ (o : Operand). IsKnownValue o Byte (temps 0)) here left.3.2 in
-      let whole : count ≡ temps 0 % 2 ^ 8 = sym (ap (λ n. n % 2 ^ 8) known ∙ mod-eq_of_lt small) in
-      let made : after 2 ≡ coded.value = left_made x count small is ∙ ap (λ n. (shift_of x n).value) whole in
-      let fits : coded.value < 2 ^ 32 = subst (λ n. n < 2 ^ 32) made (left_below _ _) in
-      let v : effect plan.behind found after 3 ≡ bit coded.v = overflow_left x count lt is ∙ ap (λ n. bit (shift_of x n).v) whole in
-      read_twice_and_write values temps (BodyDoes operations.ArithmeticShift instr plan state pages thread temps) Byte Long Long (operand instr 0) (operand instr 1) (operand instr 2) 0 1 1 2 left (λ location fine source at.
-      gives_as (Computed Long) Zero state pages thread instr.after ok Long (operand instr 2) (steps_of plan.slots instr) same location coded after plan.behind refl
-      at givable made fits refl
-      ((((rw made fits, rw made codes.0, rw made codes.1), v)), codes.2) Next tt instr.after refl
-      (coded_end_of pages coded instr.after) (λ s e. refl))
-  literal_all false is state pages thread temps values ok same left =
-      let plan = literal_plan false in
-      let found = found_at state instr.after in
-      let after = effect plan.before found temps in
-      let x = temps 1 % 2 ^ 32 in
-      let coded = shift_of x (temps 0 % 2 ^ 8) in
-      let lt : x < 2 ^ 32 = low_below Long (temps 1) in
-      let small : count < 256 = mod_below literal 256 (lit< tt) in
-      let codes = either_coded (nat_lt (temps 0 % 2 ^ 8) 128) x (temps 0 % 2 ^ 8) in
-      let known : temps 0 ≡ count = subst (λ (o : Operand). IsKnownValue o Byte (temps 0)) here left.3.2 in
-      let whole : count ≡ temps 0 % 2 ^ 8 = sym (ap (λ n. n % 2 ^ 8) known ∙ mod-eq_of_lt small) in
-      let made : after 2 ≡ coded.value = right_made x count lt small is ∙ ap (λ n. (shift_of x n).value) whole in
-      let fits : coded.value < 2 ^ 32 = subst (λ n. n < 2 ^ 32) (ap (λ n. (shift_of x n).value) whole) (rw is (value_below Long (int_div_euclid (signed_value 4 x) (pos (2 ^ min (256 - count) 31))))) in
-      let none : (shift_of x count).v ≡ false = rw is refl in
-      let v : 0 ≡ bit coded.v = ap bit (sym none) ∙ ap (λ n. bit (shift_of x n).v) whole in
-      read_twice_and_write values temps (BodyDoes operations.ArithmeticShift instr plan state pages thread temps) Byte Long Long (operand instr 0) (operand instr 1) (operand instr 2) 0 1 1 2 left (λ location fine source at.
-      gives_as (Computed Long) Zero state pages thread instr.after ok Long (operand instr 2) (steps_of plan.slots instr) same location coded after plan.behind refl
-      at givable made fits refl
-      ((((rw made fits, rw made codes.0, rw made codes.1), v)), codes.2) Next tt instr.after refl
-      (coded_end_of pages coded instr.after) (λ s e. refl))
-
-pub arithmetic_shift_all : (instr : Instr) → IsGivable (operand instr 2) Long → AllDo operations.ArithmeticShift instr (arithmetic_shift_plan instr)
-arithmetic_shift_all instr givable = by_count (operand instr 0) refl
-  where
-    by_count : (count : Operand) → operand instr 0 ≡ count → AllDo operations.ArithmeticShift instr (shift_plan_with (before_shift count) (behind_shift count) instr)
-    by_count (operands.Value literal) is = literal_all instr givable literal is (nat_lt (literal % 256) 128) refl
-    by_count operands.Unused is = counted_all instr givable
-    by_count (operands.Register n) is = counted_all instr givable
-    by_count (operands.Place base index) is = counted_all instr givable
-    by_count (operands.Target address) is = counted_all instr givable

@@ -30,7 +30,7 @@ use Rattle.operand_programs.specs.InOrder.{operands_program, steps_behind_all, n
 use Rattle.micro_lower.specs.Lowering.{ProgramsWriteOperands, WritesOperand}
 use Rattle.micro_lower.specs.Plans.{Plan, specifiers_from, rest_program, program_of}
 use Rattle.micro_lower.specs.Programs.{flags_of, flag_test, condition_exit, branch_if_program, plain_program_of}
-use Rattle.micro_lower.specs.Rows.{move_row, is_extension, behind_conversion, arithmetic_row, control_row, own_program_of, row_program_of, program_of_operation, program_for, register_target, before_aligned, add_aligned_plan, behind_binary, low_bit_plan, subtract_one_plan, add_one_plan, bit_tested, bit_stored, byte_program, before_bit, bit_target, literal_position, masked, mask_stored, mask_program, byte_of, before_literal, before_bit_at, bit_branch_plan, factors, product_program, extended_multiply_plan, extended_multiply_program, move_plan, move_zero_extended_plan, clear_plan, move_complemented_plan, move_negated_plan, convert_plan, move_address_plan, push_address_plan, push_long_plan, compare_plan, test_plan, bit_test_plan, two_operands_plan, three_operands_plan, by_one_plan, add_compare_plan, jump_plan, jump_to_subroutine_plan, add_with_carry_plan, subtract_with_carry_plan, arithmetic_shift_plan, rotate_plan, shifted_by, overflow_of_shift_by, before_shift, behind_shift, before_rotation, move_psl_plan, change_psw_plan, change_mode_plan}
+use Rattle.micro_lower.specs.Rows.{move_row, is_extension, behind_conversion, arithmetic_row, control_row, own_program_of, row_program_of, program_of_operation, program_for, register_target, before_aligned, add_aligned_plan, behind_binary, low_bit_plan, subtract_one_plan, add_one_plan, bit_tested, bit_stored, byte_program, before_bit, bit_target, literal_position, masked, mask_stored, mask_program, byte_of, before_literal, before_bit_at, bit_branch_plan, factors, product_program, extended_multiply_plan, extended_multiply_program, move_plan, move_zero_extended_plan, clear_plan, move_complemented_plan, move_negated_plan, convert_plan, move_address_plan, push_address_plan, push_long_plan, compare_plan, test_plan, bit_test_plan, two_operands_plan, three_operands_plan, by_one_plan, add_compare_plan, jump_plan, jump_to_subroutine_plan, add_with_carry_plan, subtract_with_carry_plan, arithmetic_shift_plan, rotate_plan, shifted_by, overflow_of_shift_by, literal_shift_plan, literal_shift_program, literal_shift_by, before_rotation, move_psl_plan, change_psw_plan, change_mode_plan}
 use Rattle.micro_lower.proofs.Bytes.{HaveBytes, TargetHas, joined, plan_has, push_has, quiet_has, replacement_has, rest_have, result_has}
 use Rattle.micro_lower.proofs.Quiet.{operands_quiet}
 
@@ -123,14 +123,6 @@ overflow_by_has : (bytes : ℕ) (left : Bool) (count : ℕ) → HaveBytes bytes 
 overflow_by_has bytes true count = refl
 overflow_by_has bytes false count = refl
 
-before_shift_has : (bytes : ℕ) (count : Operand) → HaveBytes bytes (before_shift count)
-before_shift_has bytes (operands.Value literal) = shifted_by_has bytes (nat_lt (literal % 256) 128) (literal % 256)
-before_shift_has bytes _ = refl
-
-behind_shift_has : (bytes : ℕ) (count : Operand) → HaveBytes bytes (behind_shift count)
-behind_shift_has bytes (operands.Value literal) = overflow_by_has bytes (nat_lt (literal % 256) 128) (literal % 256)
-behind_shift_has bytes _ = refl
-
 before_rotation_has : (bytes : ℕ) (count : Operand) → HaveBytes bytes (before_rotation count)
 before_rotation_has bytes (operands.Value literal) = refl
 before_rotation_has bytes _ = refl
@@ -183,6 +175,26 @@ product_has instr =
     (joined (bytes_of Quad) (operands_program later steps) rest (quiet_has (bytes_of Quad) (operands_program later steps) (operands_quiet later steps))
     (rest_have (bytes_of Quad) (sources_of operations.ExtendedMultiply) plan (steps_behind_all later steps) refl (λ at. result_has (operand instr 3) Quad 3 2) refl)))
 
+-- ASHL, by the operand that counts
+literal_shift_has : (left : Bool) (count : ℕ) (instr : Instr) → HaveBytes (bytes_of Long) (literal_shift_program left count instr)
+literal_shift_has left count instr =
+    let plan = literal_shift_plan left count instr in
+    let later = specifiers_from 1 plan.slots instr in
+    let rest = rest_program (sources_of operations.ArithmeticShift) plan (steps_behind_all later no_steps) in
+    joined (bytes_of Long) (operands_program later no_steps) rest (quiet_has (bytes_of Long) (operands_program later no_steps) (operands_quiet later no_steps))
+    (rest_have (bytes_of Long) (sources_of operations.ArithmeticShift) plan (steps_behind_all later no_steps) (shifted_by_has (bytes_of Long) left count) (λ at. result_has (operand instr 2) Long 3 2) (overflow_by_has (bytes_of Long) left count))
+
+counted_shift_has : (instr : Instr) → ProgramHas (bytes_of Long) (Some (program_of (sources_of operations.ArithmeticShift) (arithmetic_shift_plan instr) instr))
+unfolding written_bytes
+counted_shift_has instr = by_plan operations.ArithmeticShift (arithmetic_shift_plan instr) instr refl (λ steps. result_has (operand instr 2) Long 3 2) refl
+
+shift_has : (instr : Instr) (count : Operand) → ProgramHas (bytes_of Long) (option_or (literal_shift_by count instr) (Some (program_of (sources_of operations.ArithmeticShift) (arithmetic_shift_plan instr) instr)))
+shift_has instr (operands.Value literal) = λ program made. subst (HaveBytes (bytes_of Long)) (same_Some _ _ made) (literal_shift_has (nat_lt (literal % 256) 128) (literal % 256) instr)
+shift_has instr operands.Unused = counted_shift_has instr
+shift_has instr (operands.Register n) = counted_shift_has instr
+shift_has instr (operands.Place base index) = counted_shift_has instr
+shift_has instr (operands.Target address) = counted_shift_has instr
+
 rows_have : (operation : Operation) → RowHas operation
 unfolding own_program_of move_row arithmetic_row control_row written_bytes
 rows_have (operations.Move size) instr = by_plan (operations.Move size) (move_plan size instr) instr refl (λ steps. result_has (operand instr 1) size 3 2) refl
@@ -207,7 +219,7 @@ rows_have (operations.Decrement width) instr = by_plan (operations.Decrement wid
 rows_have operations.AddWithCarry instr = by_plan operations.AddWithCarry (add_with_carry_plan instr) instr refl (λ steps. replacement_has (operand instr 1) Long 3 2) refl
 rows_have operations.SubtractWithCarry instr = by_plan operations.SubtractWithCarry (subtract_with_carry_plan instr) instr refl (λ steps. replacement_has (operand instr 1) Long 3 2) refl
 rows_have operations.AddAlignedWord instr = by_plan operations.AddAlignedWord (add_aligned_plan instr) instr (aligned_has (operand instr 1)) (left_has 0 (operand instr 1) Word) refl
-rows_have operations.ArithmeticShift instr = by_plan operations.ArithmeticShift (arithmetic_shift_plan instr) instr (before_shift_has (bytes_of Long) (operand instr 0)) (λ steps. result_has (operand instr 2) Long 3 2) (behind_shift_has (bytes_of Long) (operand instr 0))
+rows_have operations.ArithmeticShift instr = shift_has instr (operand instr 0)
 rows_have operations.Rotate instr = by_plan operations.Rotate (rotate_plan instr) instr (before_rotation_has (bytes_of Long) (operand instr 0)) (λ steps. result_has (operand instr 2) Long 3 2) refl
 rows_have operations.ExtendedMultiply instr = λ program made. subst (HaveBytes (bytes_of Quad)) (same_Some _ _ made) (product_has instr)
 rows_have (operations.BranchOnLowBit state) instr = low_bit_has state instr

@@ -598,29 +598,24 @@ shifted =
     ∷ Compute 2 ops.SelectNonzero Long (Temp 4) (Temp 5)
     ∷ []
 
--- the same by a literal count, which says the way
+-- By a literal count, which says the way: to the left the source as a signed quadword is shifted by at most 32 into 0, and
+-- its low longword is the result
 abbrev pub shifted_by : (left : Bool) → (count : ℕ) → List Micro
-shifted_by true count = Compute 2 ops.ShiftLeft Long (Temp 1) (Const count) ∷ []
+shifted_by true count =
+    unary 0 ops.SignExtend Long (Temp 1)
+    ∷ Compute 0 ops.ShiftLeft Quad (Temp 0) (Const (min count 32))
+    ∷ unary 2 ops.Move Long (Temp 0)
+    ∷ []
 shifted_by false count = Compute 2 ops.ShiftSigned Long (Temp 1) (Const (256 - count)) ∷ []
 
--- V of a shift to the right is 0
+-- V to the left: the shifted quadword is not the result with its sign. V of a shift to the right is 0
 abbrev pub overflow_of_shift_by : (left : Bool) → (count : ℕ) → List Micro
 overflow_of_shift_by true count =
-    unary 4 ops.SignExtend Long (Temp 1)
-    ∷ Compute 4 ops.ShiftLeft Quad (Temp 4) (Const (min count 32))
-    ∷ unary 5 ops.SignExtend Long (Temp 4)
-    ∷ Compute 3 ops.Equal Quad (Temp 4) (Temp 5)
-    ∷ inverted 3
+    unary 5 ops.SignExtend Long (Temp 2)
+    ∷ Compute 3 ops.Equal Quad (Temp 0) (Temp 5)
+    ∷ Compute 3 ops.Xor Quad (Temp 3) (Const 1)
     ∷ []
 overflow_of_shift_by false count = unary 3 ops.Move Byte (Const 0) ∷ []
-
-abbrev pub before_shift : Operand → List Micro
-before_shift (operands.Value count) = shifted_by (nat_lt (count % 256) 128) (count % 256)
-before_shift count = shifted
-
-abbrev pub behind_shift : Operand → List Micro
-behind_shift (operands.Value count) = overflow_of_shift_by (nat_lt (count % 256) 128) (count % 256)
-behind_shift count = overflow_of_shift
 
 -- a byte is the count, and the longword that it is taken of goes into 1
 abbrev pub shift_plan_with : (before behind : List Micro) → Instr → Plan
@@ -632,9 +627,35 @@ shift_plan_with before behind instr = record {
   exit = Next;
 }
 
--- ASHL
+-- ASHL by a count that is computed
 abbrev pub arithmetic_shift_plan : Instr → Plan
-arithmetic_shift_plan instr = shift_plan_with (before_shift (operand instr 0)) (behind_shift (operand instr 0)) instr
+arithmetic_shift_plan instr = shift_plan_with shifted overflow_of_shift instr
+
+-- the operands behind the count
+abbrev pub later_slots : List Slot
+later_slots = read Long 1 2 ∷ written Long ∷ []
+
+-- ASHL by a literal count
+abbrev pub literal_shift_plan : (left : Bool) → (count : ℕ) → Instr → Plan
+literal_shift_plan left count instr = record {
+  slots = later_slots;
+  before = shifted_by left count;
+  target = targets.Result (operand instr 2) Long;
+  behind = overflow_of_shift_by left count;
+  exit = Next;
+}
+
+-- a literal is not evaluated: it is in the operations
+abbrev pub literal_shift_program : (left : Bool) → (count : ℕ) → Instr → List Micro
+literal_shift_program left count instr =
+    let plan = literal_shift_plan left count instr in
+    let later = specifiers_from 1 plan.slots instr in
+    operands_program later no_steps ++ rest_program (sources_of operations.ArithmeticShift) plan (steps_behind_all later no_steps)
+
+-- where the count is a literal
+abbrev pub literal_shift_by : (count : Operand) → Instr → Option (List Micro)
+literal_shift_by (operands.Value literal) instr = Some (literal_shift_program (nat_lt (literal % 256) 128) (literal % 256) instr)
+literal_shift_by count instr = None
 
 -- by the count modulo 32, and what it lacks to 32 to the right
 abbrev pub rotated : List Micro
@@ -802,9 +823,10 @@ abbrev pub program_where : CodeSources → Instr → Option Plan → Option (Lis
 program_where codes instr None = None
 program_where codes instr (Some plan) = Some (program_of codes plan instr)
 
--- an operation that has no row, but a program
+-- the program of an operation that has no row, or of one whose row is not for a literal count
 unfoldable pub own_program_of : Operation → Instr → Option (List Micro)
 own_program_of operations.ExtendedMultiply instr = Some (extended_multiply_program instr)
+own_program_of operations.ArithmeticShift instr = literal_shift_by (operand instr 0) instr
 own_program_of _ instr = None
 
 -- the program of an operation that evaluates operands

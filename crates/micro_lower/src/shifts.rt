@@ -1,16 +1,19 @@
 // Shifts and rotations.
 // VAX Architecture Reference Manual, "Integer Arithmetic and Logical Instructions": Arithmetic Shift, Rotate Long.
-ghost use Rattle.std.specs.Prelude.{◌≡◌, ◌<◌, ◌++◌, IfOk, OnOk};
-ghost use Rattle.micro_lower.specs.Plans.{program_of};
-ghost use Rattle.micro_lower.specs.Rows.{shifted_by, overflow_of_shift_by, before_shift, behind_shift, arithmetic_shift_plan, rotated_by, before_rotation, rotate_plan};
+ghost use Rattle.std.specs.Prelude.{◌≡◌, ◌<◌, ◌++◌, IfOk, MatchOption, None, OnOk, Some};
+ghost use Rattle.vax_meaning.specs.Evaluation.{operand};
+ghost use Rattle.operand_programs.specs.InOrder.{operands_program, steps_behind_all};
+ghost use Rattle.micro_lower.specs.Plans.{program_of, specifiers_from};
+ghost use Rattle.micro_lower.specs.Rows.{shifted_by, overflow_of_shift_by, arithmetic_shift_plan, later_slots, literal_shift_program, literal_shift_by, rotated_by, before_rotation, rotate_plan};
 
 use crate::arithmetic::OVERFLOWS;
 use crate::micros::{add, binary, unary};
-use crate::plans::{Plan, Slot, Target, assemble};
+use crate::plans::{Plan, Slot, Target, assemble, put_rest, put_slot};
 use crate::rows::{operand, slot};
-use micro_ops::{Arg, CodeSources, Exit, Micro, MicroOp};
+use micro_ops::{Arg, CodeSources, Exit, Micro, MicroOp, sources_of};
+use operand_programs::Steps;
 use std::alloc::Global;
-use vax_form::{Access, Instr, Operand, Size, WantOfMemory};
+use vax_form::{Access, Instr, Operand, Operation, Size, WantOfMemory};
 
 /// V of ASHL into 3: the source as a signed quadword, shifted by at most 32, is not its low longword, and the count is
 /// not negative.
@@ -84,91 +87,63 @@ const LEFT: u64 = 128;
 /// The greatest count that matters to V.
 const MOST: u64 = 32;
 
-/// By a literal count, to the left or to the right.
+/// By a literal count: to the left as a quadword into 0, or to the right.
 fn put_shifted_by(program: &mut Vec<Micro>, left: bool, count: u64) -> Result<(), WantOfMemory>
     requires { count < 256 }
     ensures { OnOk result (program.new.items ≡ program.old.items ++ shifted_by left count) }
-{
-    let shifted = if left {
-        binary!(
-            2,
-            MicroOp::ShiftLeft,
-            Size::Long,
-            Arg::Temp(1),
-            Arg::Const(count)
-        )
-    } else {
-        binary!(
-            2,
-            MicroOp::ShiftSigned,
-            Size::Long,
-            Arg::Temp(1),
-            Arg::Const(BYTES - count)
-        )
-    };
-    add(program, &[shifted])
-}
-
-/// V of a shift by a literal count into 3: to the right it is 0.
-fn put_overflow_by(program: &mut Vec<Micro>, left: bool, count: u64) -> Result<(), WantOfMemory>
-    ensures { OnOk result (program.new.items ≡ program.old.items ++ overflow_of_shift_by left count) }
 {
     if left {
         let most = Arg::Const(count.min(MOST));
         add(
             program,
             &[
-                unary!(4, MicroOp::SignExtend, Size::Long, Arg::Temp(1)),
-                binary!(4, MicroOp::ShiftLeft, Size::Quad, Arg::Temp(4), most),
-                unary!(5, MicroOp::SignExtend, Size::Long, Arg::Temp(4)),
-                binary!(3, MicroOp::Equal, Size::Quad, Arg::Temp(4), Arg::Temp(5)),
-                OVERFLOWS,
+                unary!(0, MicroOp::SignExtend, Size::Long, Arg::Temp(1)),
+                binary!(0, MicroOp::ShiftLeft, Size::Quad, Arg::Temp(0), most),
+                unary!(2, MicroOp::Move, Size::Long, Arg::Temp(0)),
             ],
         )
     } else {
+        let right = Arg::Const(BYTES - count);
         add(
             program,
-            &[unary!(3, MicroOp::Move, Size::Byte, Arg::Const(0))],
+            &[binary!(2, MicroOp::ShiftSigned, Size::Long, Arg::Temp(1), right)],
         )
     }
 }
 
-fn put_before_shift(program: &mut Vec<Micro>, count: Operand) -> Result<(), WantOfMemory>
-    ensures { OnOk result (program.new.items ≡ program.old.items ++ before_shift count) }
-{
-    match count {
-        Operand::Value(value) => {
-            let count = value % BYTES;
-            put_shifted_by(program, count < LEFT, count)
-        }
-        Operand::Unused | Operand::Register(_) | Operand::Place { .. } | Operand::Target(_) => {
-            add(program, &SHIFTED)
-        }
-    }
-}
-
-fn put_behind_shift(program: &mut Vec<Micro>, count: Operand) -> Result<(), WantOfMemory>
-    ensures { OnOk result (program.new.items ≡ program.old.items ++ behind_shift count) }
-{
-    match count {
-        Operand::Value(value) => {
-            let count = value % BYTES;
-            put_overflow_by(program, count < LEFT, count)
-        }
-        Operand::Unused | Operand::Register(_) | Operand::Place { .. } | Operand::Target(_) => {
-            add(program, &OVERFLOW_OF_SHIFT)
-        }
-    }
-}
-
-/// The count, the source and the result.
-const SHIFT: [Slot; 3] = [
-    slot!(Access::Read, Size::Byte, 0, 1),
-    slot!(Access::Read, Size::Long, 1, 2),
-    slot!(Access::Write, Size::Long, 2, 3),
+/// V of a shift to the left by a literal count: the quadword in 0 is not the result with its sign.
+const OVERFLOW_TO_LEFT: [Micro; 3] = [
+    unary!(5, MicroOp::SignExtend, Size::Long, Arg::Temp(2)),
+    binary!(3, MicroOp::Equal, Size::Quad, Arg::Temp(0), Arg::Temp(5)),
+    binary!(3, MicroOp::Xor, Size::Quad, Arg::Temp(3), Arg::Const(1)),
 ];
 
-/// ASHL.
+/// V of a shift to the right.
+const NO_OVERFLOW: [Micro; 1] = [unary!(3, MicroOp::Move, Size::Byte, Arg::Const(0))];
+
+/// V of a shift by a literal count into 3.
+fn put_overflow_by(program: &mut Vec<Micro>, left: bool, count: u64) -> Result<(), WantOfMemory>
+    ensures { OnOk result (program.new.items ≡ program.old.items ++ overflow_of_shift_by left count) }
+{
+    if left {
+        add(program, &OVERFLOW_TO_LEFT)
+    } else {
+        add(program, &NO_OVERFLOW)
+    }
+}
+
+/// The source, behind the count.
+const SOURCE: Slot = slot!(Access::Read, Size::Long, 1, 2);
+
+const WRITTEN: Slot = slot!(Access::Write, Size::Long, 2, 3);
+
+/// The count, the source and the result.
+const SHIFT: [Slot; 3] = [slot!(Access::Read, Size::Byte, 0, 1), SOURCE, WRITTEN];
+
+/// The source and the result alone.
+const LATER: [Slot; 2] = [SOURCE, WRITTEN];
+
+/// ASHL by a count that is computed.
 pub(crate) fn arithmetic_shift(
     alloc: Global,
     codes: CodeSources,
@@ -176,13 +151,44 @@ pub(crate) fn arithmetic_shift(
 ) -> Result<Vec<Micro>, WantOfMemory>
     ensures { IfOk result (λ p. p.items ≡ program_of codes (arithmetic_shift_plan instr.now) instr.now) }
 {
-    let count = operand(instr, 0);
-    let mut before = Vec::new(alloc);
-    put_before_shift(&mut before, count)?;
-    let mut behind = Vec::new(alloc);
-    put_behind_shift(&mut behind, count)?;
     let plan = Plan {
         slots: &SHIFT,
+        before: &SHIFTED,
+        target: Target::Result {
+            operand: operand(instr, 2),
+            size: Size::Long,
+        },
+        behind: &OVERFLOW_OF_SHIFT,
+        exit: Exit::Next,
+    };
+    assemble(alloc, codes, plan, instr)
+}
+
+/// The operands behind the count.
+fn put_later(program: &mut Vec<Micro>, instr: &Instr, steps: &mut Steps) -> Result<(), WantOfMemory>
+    ensures program { OnOk result (program.new.items ≡ program.old.items ++ operands_program (specifiers_from 1 later_slots instr.now) steps.old) }
+    ensures steps { OnOk result (steps.new ≡ steps_behind_all (specifiers_from 1 later_slots instr.now) steps.old) }
+{
+    put_slot(program, 1, SOURCE, instr, steps)?;
+    put_slot(program, 2, WRITTEN, instr, steps)
+}
+
+/// ASHL by a literal count.
+fn shift_by(
+    alloc: Global,
+    instr: &Instr,
+    left: bool,
+    count: u64,
+) -> Result<Vec<Micro>, WantOfMemory>
+    requires { count < 256 }
+    ensures { IfOk result (λ p. p.items ≡ literal_shift_program left count instr.now) }
+{
+    let mut before = Vec::new(alloc);
+    put_shifted_by(&mut before, left, count)?;
+    let mut behind = Vec::new(alloc);
+    put_overflow_by(&mut behind, left, count)?;
+    let plan = Plan {
+        slots: &LATER,
         before: &before,
         target: Target::Result {
             operand: operand(instr, 2),
@@ -191,7 +197,28 @@ pub(crate) fn arithmetic_shift(
         behind: &behind,
         exit: Exit::Next,
     };
-    assemble(alloc, codes, plan, instr)
+    let mut program = Vec::new(alloc);
+    let mut steps: Steps = [0; 15];
+    put_later(&mut program, instr, &mut steps)?;
+    let codes = sources_of(Operation::ArithmeticShift);
+    put_rest(&mut program, codes, plan, &mut steps)?;
+    Ok(program)
+}
+
+/// ASHL by a literal count; None by another one.
+pub(crate) fn literal_shift(
+    alloc: Global,
+    instr: &Instr,
+) -> Option<Result<Vec<Micro>, WantOfMemory>>
+    ensures { MatchOption result (literal_shift_by (operand instr.now 0) instr.now ≡ None) (λ made. IfOk made (λ p. literal_shift_by (operand instr.now 0) instr.now ≡ Some p.items)) }
+{
+    match operand(instr, 0) {
+        Operand::Value(value) => {
+            let count = value % BYTES;
+            Some(shift_by(alloc, instr, count < LEFT, count))
+        }
+        Operand::Unused | Operand::Register(_) | Operand::Place { .. } | Operand::Target(_) => None,
+    }
 }
 
 /// By the count modulo 32, and what it lacks to 32 to the right.

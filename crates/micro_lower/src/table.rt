@@ -18,7 +18,7 @@ use crate::moves::{
 };
 use crate::products::extended_multiply;
 use crate::rows::{addressed, read};
-use crate::shifts::{arithmetic_shift, rotate};
+use crate::shifts::{arithmetic_shift, literal_shift, rotate};
 use crate::status::{clear_psw, move_psl, set_psw};
 use micro_ops::{CodeSources, Micro, MicroOp, sources_of};
 use std::alloc::Global;
@@ -111,7 +111,7 @@ fn lower_control(
     }
 }
 
-/// EMUL, which has no row.
+/// EMUL, which has no row, and ASHL by a literal count.
 #[tactic(auto, unfolding(crate::specs::Rows::own_program_of))]
 fn lower_own(
     alloc: Global,
@@ -122,6 +122,7 @@ fn lower_own(
 {
     match operation {
         Operation::ExtendedMultiply => Some(extended_multiply(alloc, instr)),
+        Operation::ArithmeticShift => literal_shift(alloc, instr),
         _ => None,
     }
 }
