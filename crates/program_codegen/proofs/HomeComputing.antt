@@ -36,9 +36,10 @@ use Rattle.micro_ops.specs.Known.{behind_write, holds}
 use Rattle.micro_ops.specs.Meaning.{Standing, value_of_arg, with_value}
 use Rattle.micro_ops.specs.Uses.{is_flag, is_quad, is_select, is_unary, leaves_longword, takes}
 use Rattle.micro_ops.specs.Values.{computed, limit_of, low, value_from}
-use Rattle.compute_sequences.specs.Promises.{IsComputed, Leaves}
+use Rattle.compute_sequences.specs.Promises.{IsComputed, Leaves, LeavesAt}
 use Rattle.compute_sequences.specs.Registers.{IsArgument, IsTarget, may_change, value_at}
 use Rattle.compute_sequences.specs.Words.{compute_code, is_constant, is_moved, is_short}
+use Rattle.compute_sequences.proofs.WholeLaws.{leaves_computed}
 use Rattle.compute_sequences.proofs.Numbers.{adds, ands, clears, ors, subtracts, xors}
 use Rattle.block_law.specs.Placements.{Placement}
 use Rattle.block_law.specs.Tidy.{is_kept}
@@ -51,6 +52,7 @@ use Rattle.program_codegen.specs.Programs.{rule_of}
 use Rattle.program_codegen.specs.Words.{holder, plain}
 use Rattle.program_codegen.proofs.Computing.{argument_is, computation_runs, computed_holds, kept_apart, temp_apart, zero_apart}
 use Rattle.program_codegen.proofs.HomeHolding.{Direct, extended_home, hidden, home_is, home_self, placed_exact, placed_fits, placed_is, placed_value, written}
+use Rattle.program_codegen.proofs.HomeWaiting.{one_leaves}
 use Rattle.program_codegen.proofs.HomeNumbers.{IsExtended, extended_and, extended_below, extended_equal, extended_inverse, extended_less, extended_or, extended_small, extended_xor, zero_extended}
 use Rattle.program_codegen.proofs.Holding.{found}
 use Rattle.program_codegen.proofs.Numbers.{all_three, all_four}
@@ -738,6 +740,32 @@ module _ (p : Placement) (site : Site) (known : Known) (homes : Homes) (standing
       let m = compared_word homes to op size a b word e in
       let two = two_compared op m.1.operation m.1.is_operation in
       compares to op size a b word target a_is x.1 (b_is two) (right (is_unary op) (argument_fits known b) two x.2) none unmade e (not-true (is_shared homes to) y.2)
+
+  -- one word of its own, or registers that are the same behind it
+  pub one_computes : (to : ℕ) (op : MicroOp) (size : Size) (a b : Arg) (word : AlphaInstr) (g : Regs)
+      → computation_fits known to op a b ≡ true → IsTarget (holder to) → IsArgument a → (is_unary op ≡ false → IsArgument b)
+      → ((flag : ℕ) → flag < 4 → takes (is_flag flag) op a b ≡ true → is_ready (rule_of flag site.before) ≡ true)
+      → is_direct homes to op size a b ≡ true → copied homes to op size a ≡ None → made homes to op size a b ≡ None
+      → compute_code op size (placed homes a) (placed homes b) (holder to) ≡ word ∷ [] → is_operate word ≡ true → ((n : ℕ) → g n ≡ effect word regs n) → After to op size a b g
+  one_computes to op size a b word g ok target a_is b_is ready direct none none' code operate same =
+      let x = all_four (nat_lt to 64) (argument_fits known a) (is_unary op || argument_fits known b) (not (is_select op) || holds known to) ok in
+      let y = all_three (is_sized homes to op size a b) (not (is_select op)) (not (is_shared homes to)) direct in
+      let unselected = not-true (is_select op) y.1 in
+      let b_fits : is_unary op ≡ false → argument_fits known b ≡ true = λ two. right (is_unary op) (argument_fits known b) two x.2 in
+      let law = leaves_computed (placed homes a) (placed homes b) (21 + to) (placed_is homes d.are a a_is) target op size (λ two. placed_is homes d.are b (b_is two)) regs
+      (record {
+        zero = d.holds.form.zero;
+        first = placed_fits p site known homes standing regs d a a_is x.1;
+        second = λ two. placed_fits p site known homes standing regs d b (b_is two) (b_fits two);
+        held = λ is_so. let both : false ≡ true = sym unselected ∙ is_so in absurd (cc both);
+      }) in
+      let l = one_leaves (IsComputed op size (placed homes a) (placed homes b) (21 + to) regs) (21 + to) word regs operate
+      (subst (λ (words : List AlphaInstr). LeavesAt (IsComputed op size (placed homes a) (placed homes b) (21 + to) regs) (21 + to) words regs) code law) in
+      computes_words to op size a b g target a_is x.1
+      (λ flag lt e. ready flag lt (takes_by (is_flag flag a) (is_flag flag b) (is_unary op) e))
+      (λ two. (b_is two, b_fits two, λ flag lt e. ready flag lt (takes_other (is_flag flag a) (is_flag flag b) (is_unary op) two e)))
+      (sized_unmade homes size a b (made homes to op size a b) y.0 none') unselected (not-true (is_shared homes to) y.2) none none' tt
+      (record { holds = same (21 + to) ∙ l.holds; only = λ n out. same n ∙ l.only n out })
 
   -- the words of a computation, and then what comes behind
   pub computes : (need pc to : ℕ) (op : MicroOp) (size : Size) (a b : Arg) (rest : List Line) (t : Tree)

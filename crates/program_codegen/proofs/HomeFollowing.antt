@@ -31,7 +31,10 @@ use Rattle.block_law.proofs.Rules.{Always, operates, roomy}
 use Rattle.vax_form.specs.Parts.{parts}
 use Rattle.vax_form.specs.Ranges.{IsInRange}
 use Rattle.vax_form.specs.declared.state.Reference.{Reference}
-use Rattle.alpha_encode.specs.declared.instr.AlphaInstr.TheVariants.{Pal}
+use Rattle.alpha_encode.specs.declared.instr.AlphaInstr.TheVariants.{Operate, Pal}
+use Rattle.alpha_encode.specs.declared.instr.OperateOp.TheVariants as row
+use Rattle.alpha_encode.specs.declared.instr.Second.TheVariants as seconds
+use Rattle.compute_sequences.specs.Words.{compute_code}
 use Rattle.micro_ops.specs.declared.known.Checked.TheVariants.{At}
 use Rattle.program_codegen.proofs.HomeSparing.{all_append}
 use Rattle.program_codegen.proofs.Operands.{count_some, read_value, write_done}
@@ -39,12 +42,14 @@ use Rattle.program_codegen.proofs.HomeReaching.{direct_checks, direct_reads, dir
 use Rattle.program_codegen.specs.declared.homes.Homes.{Homes}
 use Rattle.program_codegen.specs.declared.lines.Line.{Line}
 use Rattle.program_codegen.specs.declared.points.Site.{Site}
-use Rattle.program_codegen.specs.Homes.{are_left, are_short_rules, choice_lines, commit_stays, copied, direct_by, direct_code, direct_end, direct_lines, direct_step, end_at, end_lines, end_words, exit_behind, exit_stays, is_direct, made, may_end, moved_words, needed_words, new_home, next_exit, step_by, tested_at, tested_exit, waiting_words, with_home, is_shared, may_write, reach, reached, read_home, reading, settled, stands, compared, tested_words, all_waiting, behind_waiting, choice_of}
+use Rattle.program_codegen.specs.Homes.{are_left, are_short_rules, choice_lines, commit_stays, copied, direct_by, direct_code, direct_end, direct_lines, direct_step, end_at, end_lines, end_words, exit_behind, exit_stays, is_direct, made, may_end, moved_words, needed_words, new_home, next_exit, step_by, tested_at, tested_exit, waiting_words, with_home, is_shared, may_write, reach, reached, read_home, reading, settled, stands, compared, tested_words, all_waiting, behind_waiting, choice_of, code_by, only_word, one_waits, passed, words_wait, placed}
 use Rattle.program_codegen.specs.Programs.{AllHaveWords, ReadsReady}
 use Rattle.program_codegen.specs.Words.{departing_by, plain, trap_by, copy, marked, probing, write_by}
 use Rattle.program_codegen.proofs.Committing.{sets_codes}
 use Rattle.program_codegen.proofs.Following.{departs, opened}
-use Rattle.program_codegen.proofs.HomeComputing.{compared_operates, compares_then, computes, copies_then, made_operates, makes_then}
+use Rattle.program_codegen.proofs.HomeComputing.{compared_operates, compares_then, computes, copies_then, made_operates, makes_then, one_computes}
+use Rattle.program_codegen.proofs.HomeNumbers.{IsExtended}
+use Rattle.program_codegen.proofs.HomeWaiting.{Passed, only_is, outlasts, passed_is, passes}
 use Rattle.program_codegen.proofs.HomeEnding.{CommitFits, Waits, begins, committed, end_follows, effects_append}
 use Rattle.program_codegen.proofs.HomeHolding.{Direct, committing, hidden, written}
 use Rattle.program_codegen.proofs.HomeSomes.{chained, first_is, mapped}
@@ -433,24 +438,69 @@ module _ (p : Placement) (site : Site) (codes : List AlphaInstr) (setting : Sett
       by_words rest fits onward out direct None e None f (Some word) h is w =
           let has = have.0 out in
           waits_on rest word (compared_operates homes to op size a b word h) onward (compares_then p site known homes standing begun d to op size a b word fits has.0 has.1 has.2 direct e f h) is w
-      by_words rest fits onward out direct None e None f None h is w =
-          let has = have.0 out in
-          let some = direct_some site codes program (record homes_then { before = None; waiting = None }) rest is in
-          let split = row_apart (waiting_words homes.before) (waiting_words homes.waiting ++ direct_code homes to op size a b) rest ∙ ap (λ (lines : List Line). map plain (waiting_words homes.before) ++ lines) (row_apart (waiting_words homes.waiting) (direct_code homes to op size a b) rest) in
-          let w' = subst (Within p site.behind pc) split w in
-          let w1 = row_rest p site.behind pc (waiting_words homes.before) (map plain (waiting_words homes.waiting) ++ (map plain (direct_code homes to op size a b) ++ rest)) w' in
-          let w2 = row_rest p site.behind (pc + length (waiting_words homes.before)) (waiting_words homes.waiting) (map plain (direct_code homes to op size a b) ++ rest) w1 in
-          let count = row_length p site.behind (waiting_words homes.before) (map plain (waiting_words homes.waiting) ++ (map plain (direct_code homes to op size a b) ++ rest)) in
-          let counts = row_length p site.behind (waiting_words homes.waiting) (map plain (direct_code homes to op size a b) ++ rest) in
-          let more = row_length p site.behind (direct_code homes to op size a b) rest in
-          let same = ap (λ (lines : List Line). length lines) split in
-          roomy p None (length (waiting_words homes.before) + (length (waiting_words homes.waiting) + (length (direct_code homes to op size a b) + length rest))) (length (map plain (waiting_words homes.before ++ (waiting_words homes.waiting ++ direct_code homes to op size a b)) ++ rest)) (at_place regs pc) _ (omega arith)
-          (first homes.before regs pc (length (waiting_words homes.waiting) + (length (direct_code homes to op size a b) + length rest)) (map plain (waiting_words homes.waiting) ++ (map plain (direct_code homes to op size a b) ++ rest)) _ waits.0 (omega arith) w'
-          (first homes.waiting (effects (waiting_words homes.before) regs) (pc + length (waiting_words homes.before)) (length (direct_code homes to op size a b) + length rest) (map plain (direct_code homes to op size a b) ++ rest) _ waits.1 (omega arith) w1
-          (computes p site known homes standing begun d (length rest) (pc + length (waiting_words homes.before) + length (waiting_words homes.waiting)) to op size a b rest _ w2 some fits has.0 has.1 has.2
-          (λ flag lt is. reads flag lt (or_left (reads_flag flag (Compute to op size a b)) (list_any (reads_flag flag) program) is)) direct
-          (λ g d'. onward (with_value to value standing) g (pc + length (waiting_words homes.before) + length (waiting_words homes.waiting) + length (direct_code homes to op size a b)) (record homes_then { before = None; waiting = None }) is
-          (row_rest p site.behind (pc + length (waiting_words homes.before) + length (waiting_words homes.waiting)) (direct_code homes to op size a b) rest w2) (refl, refl) (record { holds = d'.holds; are = d'.are; values = d'.values }) good))))
+      by_words rest fits onward out direct None e None f None h is w = by_only (only_word (direct_code homes to op size a b)) refl is w
+        where
+          code : direct_code homes to op size a b ≡ compute_code op size (placed homes a) (placed homes b) (21 + to)
+          code =
+              ap (λ (o : Option ℕ). code_by o (made homes to op size a b) (compared homes to op size a b) (compute_code op size (placed homes a) (placed homes b) (21 + to))) e
+              ∙ (ap (λ (o : Option AlphaInstr). code_by None o (compared homes to op size a b) (compute_code op size (placed homes a) (placed homes b) (21 + to))) f
+              ∙ ap (λ (o : Option AlphaInstr). code_by None None o (compute_code op size (placed homes a) (placed homes b) (21 + to))) h)
+
+          -- what stands behind one word
+          one : (word : AlphaInstr) → only_word (direct_code homes to op size a b) ≡ Some word → (g : Regs) → ((n : ℕ) → g n ≡ effect word begun n) → Direct p site after homes_then (with_value to value standing) g
+          one word only g same =
+              let has = have.0 out in
+              let o = only_is (direct_code homes to op size a b) word only in
+              one_computes p site known homes standing begun d to op size a b word g fits has.0 has.1 has.2
+              (λ flag lt is. reads flag lt (or_left (reads_flag flag (Compute to op size a b)) (list_any (reads_flag flag) program) is)) direct e f (sym code ∙ o.0) o.1 same
+
+          -- it needs no copy before it
+          passes_on : (word shorter : AlphaInstr) → only_word (direct_code homes to op size a b) ≡ Some word → Passed homes.waiting word shorter
+              → direct_lines site codes (record homes_then { before = homes.before; waiting = Some shorter }) program ≡ Some rest → Within p site.behind pc rest
+              → Always p None (length rest) (at_place regs pc) (tree (ends p) (Course_of (Compute to op size a b ∷ program) standing))
+          passes_on word shorter only q is w =
+              let copy : AlphaInstr = Operate row.Addl q.from (seconds.Literal 0) q.to in
+              let behind : begun ≡ effect copy (effects (waiting_words homes.before) regs) = ap (λ (o : Option AlphaInstr). effects (waiting_words o) (effects (waiting_words homes.before) regs)) q.is_copy in
+              let extended : IsExtended (effects (waiting_words homes.before) regs q.from) =
+              subst IsExtended (ap (λ (f : Regs). f q.from) behind ∙ outlasts q.from q.to q.high q.register (effects (waiting_words homes.before) regs)) (d.holds.form.longwords q.from q.register) in
+              let same : (n : ℕ) → effect shorter (effects (waiting_words homes.before) regs) n ≡ effect word begun n = λ n.
+              ap (λ (i : AlphaInstr). effect i (effects (waiting_words homes.before) regs) n) q.is
+              ∙ (passes q.operation q.from q.second q.to q.low q.unread q.unheld (effects (waiting_words homes.before) regs) extended n
+              ∙ (ap (λ (f : Regs). effect (Operate q.operation q.to q.second q.to) f n) (sym behind) ∙ ap (λ (i : AlphaInstr). effect i begun n) (sym q.is_word))) in
+              let d' = one word only (effect shorter (effects (waiting_words homes.before) regs)) same in
+              onward (with_value to value standing) regs pc (record homes_then { before = homes.before; waiting = Some shorter }) is w
+              (waits.0, subst (λ (i : AlphaInstr). list_all is_operate (i ∷ []) ≡ true) (sym q.is) refl)
+              (record { holds = d'.holds; are = d'.are; values = d'.values }) good
+
+          by_passed : (word : AlphaInstr) → only_word (direct_code homes to op size a b) ≡ Some word → (s : Option AlphaInstr) → passed homes.waiting word ≡ s
+              → direct_lines site codes (one_waits s homes.before homes.waiting homes_then word).0 program ≡ Some rest
+              → Within p site.behind pc (map plain (one_waits s homes.before homes.waiting homes_then word).1 ++ rest)
+              → Always p None (length (map plain (one_waits s homes.before homes.waiting homes_then word).1 ++ rest)) (at_place regs pc) (tree (ends p) (Course_of (Compute to op size a b ∷ program) standing))
+          by_passed word only None s is w = waits_on rest word (only_is (direct_code homes to op size a b) word only).1 onward (one word only (effect word begun) (λ n. refl)) is w
+          by_passed word only (Some shorter) s is w = passes_on word shorter only (passed_is homes.waiting word shorter s) is w
+
+          by_only : (m : Option AlphaInstr) → only_word (direct_code homes to op size a b) ≡ m → direct_lines site codes (words_wait m homes.before homes.waiting homes_then (direct_code homes to op size a b)).0 program ≡ Some rest
+              → Within p site.behind pc (map plain (words_wait m homes.before homes.waiting homes_then (direct_code homes to op size a b)).1 ++ rest)
+              → Always p None (length (map plain (words_wait m homes.before homes.waiting homes_then (direct_code homes to op size a b)).1 ++ rest)) (at_place regs pc) (tree (ends p) (Course_of (Compute to op size a b ∷ program) standing))
+          by_only (Some word) only is w = by_passed word only (passed homes.waiting word) refl is w
+          by_only None only is w =
+              let has = have.0 out in
+              let some = direct_some site codes program (record homes_then { before = None; waiting = None }) rest is in
+              let split = row_apart (waiting_words homes.before) (waiting_words homes.waiting ++ direct_code homes to op size a b) rest ∙ ap (λ (lines : List Line). map plain (waiting_words homes.before) ++ lines) (row_apart (waiting_words homes.waiting) (direct_code homes to op size a b) rest) in
+              let w' = subst (Within p site.behind pc) split w in
+              let w1 = row_rest p site.behind pc (waiting_words homes.before) (map plain (waiting_words homes.waiting) ++ (map plain (direct_code homes to op size a b) ++ rest)) w' in
+              let w2 = row_rest p site.behind (pc + length (waiting_words homes.before)) (waiting_words homes.waiting) (map plain (direct_code homes to op size a b) ++ rest) w1 in
+              let count = row_length p site.behind (waiting_words homes.before) (map plain (waiting_words homes.waiting) ++ (map plain (direct_code homes to op size a b) ++ rest)) in
+              let counts = row_length p site.behind (waiting_words homes.waiting) (map plain (direct_code homes to op size a b) ++ rest) in
+              let more = row_length p site.behind (direct_code homes to op size a b) rest in
+              let same = ap (λ (lines : List Line). length lines) split in
+              roomy p None (length (waiting_words homes.before) + (length (waiting_words homes.waiting) + (length (direct_code homes to op size a b) + length rest))) (length (map plain (waiting_words homes.before ++ (waiting_words homes.waiting ++ direct_code homes to op size a b)) ++ rest)) (at_place regs pc) _ (omega arith)
+              (first homes.before regs pc (length (waiting_words homes.waiting) + (length (direct_code homes to op size a b) + length rest)) (map plain (waiting_words homes.waiting) ++ (map plain (direct_code homes to op size a b) ++ rest)) _ waits.0 (omega arith) w'
+              (first homes.waiting (effects (waiting_words homes.before) regs) (pc + length (waiting_words homes.before)) (length (direct_code homes to op size a b) + length rest) (map plain (direct_code homes to op size a b) ++ rest) _ waits.1 (omega arith) w1
+              (computes p site known homes standing begun d (length rest) (pc + length (waiting_words homes.before) + length (waiting_words homes.waiting)) to op size a b rest _ w2 some fits has.0 has.1 has.2
+              (λ flag lt is. reads flag lt (or_left (reads_flag flag (Compute to op size a b)) (list_any (reads_flag flag) program) is)) direct
+              (λ g d'. onward (with_value to value standing) g (pc + length (waiting_words homes.before) + length (waiting_words homes.waiting) + length (direct_code homes to op size a b)) (record homes_then { before = None; waiting = None }) is
+              (row_rest p site.behind (pc + length (waiting_words homes.before) + length (waiting_words homes.waiting)) (direct_code homes to op size a b) rest w2) (refl, refl) (record { holds = d'.holds; are = d'.are; values = d'.values }) good))))
 
       by : (step : Homes × List AlphaInstr) (rest : List Line) → direct_lines site codes step.0 program ≡ Some rest → map plain step.1 ++ rest ≡ lines → computation_fits known to op a b ≡ true → Onward rest
           → (out : Bool) → is_left_out site.sources (Compute to op size a b) program ≡ out → Stepped site homes to op size a b program step out

@@ -5,7 +5,7 @@ use Rattle.std.specs.List.{list_all, list_any}
 use Rattle.std.proofs.lemmas.Bool.Decides.{nat_tests}
 use Rattle.std.proofs.lemmas.Bool.{ltb-true, and_from, and_parts}
 use Rattle.std.proofs.lemmas.List.{append-nil}
-use Rattle.std.proofs.lemmas.List.Elements.{All-nil, All-append}
+use Rattle.std.proofs.lemmas.List.Elements.{All-append, All-cons, All-head, All-nil}
 use Rattle.std.proofs.lemmas.List.Folds.{list_any-append, list_all-append}
 use Rattle.std.proofs.lemmas.Option.{same_Some}
 use Rattle.vax_form.specs.declared.instr.Size.{Size}
@@ -47,7 +47,7 @@ use Rattle.program_codegen.proofs.HomeFronts.{probe_front, read_front, write_fro
 use Rattle.program_codegen.specs.declared.homes.Homes.{Homes}
 use Rattle.program_codegen.specs.declared.lines.Line.{Line}
 use Rattle.program_codegen.specs.declared.points.Site.{Site}
-use Rattle.program_codegen.specs.Homes.{AreHomes, IsHome, are_left, are_short_rules, code_by, commit_stays, compared, comparison, copied, direct_code, direct_lines, direct_step, end_lines, exit_behind, exit_stays, extended_first, extended_second, home_by, home_of, is_copying, is_shared, long_operation, made, made_operation, may_end, moved_words, new_home, placed, standing_in, with_home, end_words, step_by, waiting_words, choice_lines, next_exit, tested_at, tested_exit, is_short_constant, made_size, needed_words, is_extended, may_write, read_home, reading, settled, stands, all_waiting, is_exact, is_sized, choice_of}
+use Rattle.program_codegen.specs.Homes.{AreHomes, IsHome, are_left, are_short_rules, code_by, commit_stays, compared, comparison, copied, direct_code, direct_lines, direct_step, end_lines, exit_behind, exit_stays, extended_first, extended_second, home_by, home_of, is_copying, is_shared, long_operation, made, made_operation, may_end, moved_words, new_home, placed, standing_in, with_home, end_words, step_by, waiting_words, choice_lines, next_exit, tested_at, tested_exit, is_short_constant, made_size, needed_words, is_extended, may_write, read_home, reading, settled, stands, all_waiting, is_exact, is_sized, choice_of, only_word, one_waits, passed, words_wait}
 use Rattle.program_codegen.specs.Programs.{AllHaveWords, IsExit}
 use Rattle.program_codegen.specs.Words.{departing_by, exit_lines, plain, trap_by, words_of, copy, marked, probing, write_by}
 use Rattle.program_codegen.proofs.Coded.{fine_operates}
@@ -56,6 +56,7 @@ use Rattle.program_codegen.proofs.Following.{opened}
 use Rattle.program_codegen.proofs.Fronts.{Shape, any_neither, quiet_kept, row_targets, row_words_are, silent_front, spares_append, targets, targets_append, words_append, free_front}
 use Rattle.program_codegen.proofs.HomeComputing.{compared_word, made_long, made_word, Joined, Literally, copying, made_operates, compared_operates, sized_unmade, Sized}
 use Rattle.program_codegen.proofs.HomeChoices.{choice_fits, choice_goes, choice_links, choice_quiet}
+use Rattle.program_codegen.proofs.HomeWaiting.{Passed, only_is, passed_fits, passed_is}
 use Rattle.program_codegen.proofs.HomeFollowing.{Stepped, ends_with, stepped, with_exit, row_apart, waits_same, reaching, where_false, where_true}
 use Rattle.program_codegen.proofs.HomeSomes.{chained, first_is, mapped}
 use Rattle.program_codegen.proofs.HomeTesting.{Tested, facts, tested}
@@ -476,21 +477,52 @@ module _ (site : Site) (codes : List AlphaInstr) (after_fits : site.after < 2 ^ 
           ∙ (ap (λ (o : Option AlphaInstr). code_by None o (compared homes to op size a b) (compute_code op size (placed homes a) (placed homes b) (21 + to))) f
           ∙ ap (λ (o : Option AlphaInstr). code_by None None o (compute_code op size (placed homes a) (placed homes b) (21 + to))) h) in
           waits_on rest shape are' word (subst (Words homes are (count_of (Compute to op size a b))) code w) (compared_operates homes to op size a b word h) is
-      by_words rest shape are' target a_is b_is either None e None f None h is =
-          let w = direct_words homes are to op size a b target a_is b_is either in
-          let behind = shape (record homes_then { before = None; waiting = None }) (are'.0, are'.1, are'.2, are'.3) (record { before = nothing_waits; last = nothing_waits }) is in
-          let most = w.few in
-          let count = plain_length (waiting_words homes.before) in
-          let counts = plain_length (waiting_words homes.waiting) in
-          let more = plain_length (direct_code homes to op size a b) in
-          subst (Shape site changed codes (addresses_of site.after program) (count_of (Compute to op size a b) + program_words site.sources program + 59 + waiting_count homes))
-          (sym (row_apart (waiting_words homes.before) (waiting_words homes.waiting ++ direct_code homes to op size a b) rest ∙ ap (λ (lines : List Line). map plain (waiting_words homes.before) ++ lines) (row_apart (waiting_words homes.waiting) (direct_code homes to op size a b) rest)))
-          (silent_front site codes (addresses_of site.after program) changed (length (waiting_words homes.before)) (length (waiting_words homes.waiting) + (count_of (Compute to op size a b) + (program_words site.sources program + 59 + 0))) _ (waiting_words homes.before) (map plain (waiting_words homes.waiting) ++ (map plain (direct_code homes to op size a b) ++ rest))
-          waits.before.encodable waits.before.silent (omega arith) (omega arith)
-          (silent_front site codes (addresses_of site.after program) changed (length (waiting_words homes.waiting)) (count_of (Compute to op size a b) + (program_words site.sources program + 59 + 0)) _ (waiting_words homes.waiting) (map plain (direct_code homes to op size a b) ++ rest)
-          waits.last.encodable waits.last.silent (omega arith) (omega arith)
-          (silent_front site codes (addresses_of site.after program) changed (count_of (Compute to op size a b)) (program_words site.sources program + 59 + 0) _ (direct_code homes to op size a b) rest
-          w.encodable w.silent (omega arith) (omega arith) behind)))
+      by_words rest shape are' target a_is b_is either None e None f None h is = by_only (only_word (direct_code homes to op size a b)) refl is
+        where
+          -- it needs no copy before it
+          passes_on : (word shorter : AlphaInstr) → only_word (direct_code homes to op size a b) ≡ Some word → Passed homes.waiting word shorter
+              → direct_lines site codes (record homes_then { before = homes.before; waiting = Some shorter }) program ≡ Some rest
+              → Shape site changed codes (addresses_of site.after program) (count_of (Compute to op size a b) + program_words site.sources program + 59 + waiting_count homes) rest
+          passes_on word shorter only q is =
+              let o = only_is (direct_code homes to op size a b) word only in
+              let w = subst (Words homes are (count_of (Compute to op size a b))) (o.0 ∙ ap (λ (i : AlphaInstr). i ∷ []) q.is_word) (direct_words homes are to op size a b target a_is b_is either) in
+              let fits = All-head IsEncodable (Operate q.operation q.to q.second q.to) [] w.encodable in
+              let quiet : Quiet (Some shorter) = subst (λ (i : AlphaInstr). Quiet (Some i)) (sym q.is) (record {
+                encodable = All-cons IsEncodable (Operate q.operation q.from q.second q.to) [] (passed_fits q.operation q.to q.from q.low q.register fits.0, fits.1, fits.2) (All-nil IsEncodable);
+                silent = w.silent;
+                operate = refl;
+              }) in
+              let behind = shape (record homes_then { before = homes.before; waiting = Some shorter }) (are'.0, are'.1, are'.2, are'.3) (record { before = waits.before; last = quiet }) is in
+              let short = behind.short in
+              let count = ap (λ (o : Option AlphaInstr). length (waiting_words o)) q.is_copy in
+              record { each = behind.each; kept = behind.kept; goes = behind.goes; writes = behind.writes; short = omega arith }
+
+          by_passed : (word : AlphaInstr) → only_word (direct_code homes to op size a b) ≡ Some word → (s : Option AlphaInstr) → passed homes.waiting word ≡ s
+              → direct_lines site codes (one_waits s homes.before homes.waiting homes_then word).0 program ≡ Some rest
+              → Shape site changed codes (addresses_of site.after program) (count_of (Compute to op size a b) + program_words site.sources program + 59 + waiting_count homes) (map plain (one_waits s homes.before homes.waiting homes_then word).1 ++ rest)
+          by_passed word only None s is =
+              let o = only_is (direct_code homes to op size a b) word only in
+              waits_on rest shape are' word (subst (Words homes are (count_of (Compute to op size a b))) o.0 (direct_words homes are to op size a b target a_is b_is either)) o.1 is
+          by_passed word only (Some shorter) s is = passes_on word shorter only (passed_is homes.waiting word shorter s) is
+
+          by_only : (m : Option AlphaInstr) → only_word (direct_code homes to op size a b) ≡ m → direct_lines site codes (words_wait m homes.before homes.waiting homes_then (direct_code homes to op size a b)).0 program ≡ Some rest
+              → Shape site changed codes (addresses_of site.after program) (count_of (Compute to op size a b) + program_words site.sources program + 59 + waiting_count homes) (map plain (words_wait m homes.before homes.waiting homes_then (direct_code homes to op size a b)).1 ++ rest)
+          by_only (Some word) only is = by_passed word only (passed homes.waiting word) refl is
+          by_only None only is =
+              let w = direct_words homes are to op size a b target a_is b_is either in
+              let behind = shape (record homes_then { before = None; waiting = None }) (are'.0, are'.1, are'.2, are'.3) (record { before = nothing_waits; last = nothing_waits }) is in
+              let most = w.few in
+              let count = plain_length (waiting_words homes.before) in
+              let counts = plain_length (waiting_words homes.waiting) in
+              let more = plain_length (direct_code homes to op size a b) in
+              subst (Shape site changed codes (addresses_of site.after program) (count_of (Compute to op size a b) + program_words site.sources program + 59 + waiting_count homes))
+              (sym (row_apart (waiting_words homes.before) (waiting_words homes.waiting ++ direct_code homes to op size a b) rest ∙ ap (λ (lines : List Line). map plain (waiting_words homes.before) ++ lines) (row_apart (waiting_words homes.waiting) (direct_code homes to op size a b) rest)))
+              (silent_front site codes (addresses_of site.after program) changed (length (waiting_words homes.before)) (length (waiting_words homes.waiting) + (count_of (Compute to op size a b) + (program_words site.sources program + 59 + 0))) _ (waiting_words homes.before) (map plain (waiting_words homes.waiting) ++ (map plain (direct_code homes to op size a b) ++ rest))
+              waits.before.encodable waits.before.silent (omega arith) (omega arith)
+              (silent_front site codes (addresses_of site.after program) changed (length (waiting_words homes.waiting)) (count_of (Compute to op size a b) + (program_words site.sources program + 59 + 0)) _ (waiting_words homes.waiting) (map plain (direct_code homes to op size a b) ++ rest)
+              waits.last.encodable waits.last.silent (omega arith) (omega arith)
+              (silent_front site codes (addresses_of site.after program) changed (count_of (Compute to op size a b)) (program_words site.sources program + 59 + 0) _ (direct_code homes to op size a b) rest
+              w.encodable w.silent (omega arith) (omega arith) behind)))
 
       by : (step : Homes × List AlphaInstr) (rest : List Line) → direct_lines site codes step.0 program ≡ Some rest
           → ((homes' : Homes) → AreHomes homes' → Waiting homes' → direct_lines site codes homes' program ≡ Some rest → ShapeOf changed homes' program rest)

@@ -47,6 +47,7 @@ pub mod Beginning
 pub mod HomeNumbers
 pub mod HomeChoices
 pub mod HomeCodes
+pub mod HomeWaiting
 pub mod HomeSomes
 pub mod HomeShapes
 pub mod HomeSparing

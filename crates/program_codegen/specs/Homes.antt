@@ -208,8 +208,7 @@ direct_code homes to op size a b =
     code_by (copied homes to op size a) (made homes to op size a b) (compared homes to op size a b)
     (compute_code op size (placed homes a) (placed homes b) (holder to))
 
--- A word that makes a literal or the result, or compares, waits until two others do, or another computation has words, or up to
--- the end.
+-- A word of a computation that has no other waits until two others do, or a computation has more words, or up to the end.
 abbrev pub waiting_words : Option AlphaInstr → List AlphaInstr
 waiting_words None = []
 waiting_words (Some word) = word ∷ []
@@ -217,11 +216,52 @@ waiting_words (Some word) = word ∷ []
 abbrev pub all_waiting : Homes → List AlphaInstr
 all_waiting homes = waiting_words homes.before ++ waiting_words homes.waiting
 
+-- a conditional move reads what it writes
+abbrev pub is_choice : OperateOp → Bool
+is_choice row.Cmoveq = true
+is_choice row.Cmovne = true
+is_choice op = false
+
+abbrev pub second_reads : Second → (register : ℕ) → Bool
+second_reads (seconds.Register number) register = number == register
+second_reads (seconds.Literal value) register = false
+
+-- the word, where it is the only one
+abbrev pub only_word : List AlphaInstr → Option AlphaInstr
+only_word (Operate op first second to ∷ []) = Some (Operate op first second to)
+only_word words = None
+
+-- the VAX register that what waits copies to that place
+abbrev pub copied_to : (place : ℕ) → (waiting : Option AlphaInstr) → Option ℕ
+copied_to place (Some (Operate row.Addl first (seconds.Literal value) to)) =
+    if to == place && value == 0 && nat_lt first 15 then Some first else None
+copied_to place waiting = None
+
+-- a word reads the register of a temporary that it writes over
+abbrev pub reads_over : OperateOp → (first : ℕ) → Second → (to : ℕ) → Bool
+reads_over op first second to = first == to && not (second_reads second to) && not (is_choice op) && nat_lt 20 to && nat_lt to 27
+
+-- The word that reads the VAX register itself, where the word that waits only copies it to what this one writes over.
+abbrev pub passed : (waiting : Option AlphaInstr) → (word : AlphaInstr) → Option AlphaInstr
+passed waiting (Operate op first second to) =
+    if reads_over op first second to then option_map (λ from. Operate op from second to) (copied_to to waiting) else None
+passed waiting word = None
+
+-- it waits in place of the copy, which has no use then, or behind the word before it
+abbrev pub one_waits : (passed before waiting : Option AlphaInstr) → Homes → (word : AlphaInstr) → Homes × List AlphaInstr
+one_waits (Some shorter) before waiting homes word = (record homes { before = before; waiting = Some shorter }, [])
+one_waits None before waiting homes word = (record homes { before = waiting; waiting = Some word }, waiting_words before)
+
+abbrev pub words_wait : (only before waiting : Option AlphaInstr) → Homes → (words : List AlphaInstr) → Homes × List AlphaInstr
+words_wait (Some word) before waiting homes words = one_waits (passed waiting word) before waiting homes word
+words_wait None before waiting homes words =
+    (record homes { before = None; waiting = None }, waiting_words before ++ (waiting_words waiting ++ words))
+
 abbrev pub step_by : (copied : Option ℕ) → (made compared : Option AlphaInstr) → (before waiting : Option AlphaInstr) → Homes → (words : List AlphaInstr) → Homes × List AlphaInstr
 step_by (Some register) made compared before waiting homes words = (homes, [])
 step_by None (Some word) compared before waiting homes words = (record homes { before = waiting; waiting = Some word }, waiting_words before)
 step_by None None (Some word) before waiting homes words = (record homes { before = waiting; waiting = Some word }, waiting_words before)
-step_by None None None before waiting homes words = (record homes { before = None; waiting = None }, waiting_words before ++ (waiting_words waiting ++ words))
+step_by None None None before waiting homes words = words_wait (only_word words) before waiting homes words
 
 -- where the temporaries stand behind a computation, and the words that stand up to there
 abbrev pub direct_by : Homes → (to : ℕ) → MicroOp → Size → (a b : Arg) → Homes × List AlphaInstr
@@ -241,12 +281,6 @@ is_operand_second (seconds.Literal value) = false
 abbrev pub second_home : Homes → Second → Option ℕ
 second_home homes (seconds.Register register) = home_at homes register
 second_home homes (seconds.Literal value) = None
-
--- a conditional move reads what it writes
-abbrev pub is_choice : OperateOp → Bool
-is_choice row.Cmoveq = true
-is_choice row.Cmovne = true
-is_choice op = false
 
 abbrev pub when : Bool → AlphaInstr → Option AlphaInstr
 when b word = if b then Some word else None
@@ -416,10 +450,6 @@ commit_words homes (Some commit) =
 
 -- ---- words that are spared
 -- Where nothing but copies of what a word makes is wanted, each of them is made where it goes, and the word is spared.
-abbrev pub second_reads : Second → (register : ℕ) → Bool
-second_reads (seconds.Register number) register = number == register
-second_reads (seconds.Literal value) register = false
-
 abbrev pub word_reads : AlphaInstr → (register : ℕ) → Bool
 word_reads (Operate op first second to) register = (first == register) || second_reads second register
 word_reads word register = true

@@ -1,7 +1,7 @@
 // The words of programs whose operands are used where they stand.
 ghost use Rattle.std.specs.Prelude.{◌≡◌, ◌++◌, ◌∷◌, IfOk, IfSome, OnOk, MatchOption, None, Some, map, true};
 ghost use Rattle.program_codegen.specs.Words.{plain};
-ghost use Rattle.program_codegen.specs.Homes.{is_operand, is_operand_second, second_home, is_choice, unmoved, moved_operand, moved_both, moved_first, moved_by, is_raised, raised_at, raised_second, with_raised, have_homes, raised_home, compared_raised, moved_word, moved_step, moved_words, is_short_rule, are_short_rules, is_wordless, exit_of, exit_behind, with_commit, end_at, exit_stays, commit_stays, commit_words, is_made_there, are_left, may_end, direct_end, end_lines, ended_lines, goes_on, homes_at, step_at, lines_at, direct_lines, no_homes, AreHomes, end_words};
+ghost use Rattle.program_codegen.specs.Homes.{is_operand, is_operand_second, second_home, unmoved, moved_operand, moved_both, moved_first, moved_by, is_raised, raised_at, raised_second, with_raised, have_homes, raised_home, compared_raised, moved_word, moved_step, moved_words, is_short_rule, are_short_rules, is_wordless, exit_of, exit_behind, with_commit, end_at, exit_stays, commit_stays, commit_words, is_made_there, are_left, may_end, direct_end, end_lines, ended_lines, goes_on, homes_at, step_at, lines_at, direct_lines, no_homes, AreHomes, end_words};
 ghost use Rattle.program_codegen.specs.Programs.{AllFitWords, HasWords, IsExit, IsRanged, IsRangedExit, RangedToLeave, is_narrow};
 
 use crate::homes::{Homes, NO_HOMES, home_at, home_of, is_direct, push_direct, stands_in};
@@ -11,6 +11,7 @@ use crate::points::Site;
 use crate::reached::reach;
 use crate::spared::end_words;
 use crate::tested::{choice_of, tested_at};
+use crate::waits::is_choice;
 use alpha_encode::registers::{CARRY_FIRST, CARRY_SECOND, RULE_FIRST, RULE_SECOND, TEMPORARIES};
 use alpha_encode::{AlphaInstr, OperateOp, Second, operate, operate_by};
 use exception_records::{CodeRule, Rules};
@@ -75,12 +76,6 @@ fn second_home(homes: Homes, second: Second) -> Option<u8>
         Second::Register(register) => home_at(homes, register),
         Second::Literal(_) => None,
     }
-}
-
-pub(crate) fn is_choice(op: OperateOp) -> bool
-    ensures { result ≡ is_choice op }
-{
-    matches!(op, OperateOp::Cmoveq | OperateOp::Cmovne)
 }
 
 /// A word that reads no home.

@@ -3,10 +3,11 @@ ghost use Rattle.std.specs.Prelude.{◌≡◌, ◌++◌, ◌≤◌, OnOk, IfOk, 
 ghost use Rattle.compute_sequences.specs.Registers.{IsArgument, IsTarget};
 ghost use Rattle.compute_sequences.specs.Words.{is_moved};
 ghost use Rattle.micro_ops.specs.Uses.{is_unary};
-ghost use Rattle.program_codegen.specs.Homes.{AreHomes, home_of, with_home, all_waiting, home_at, stands_in, is_shared, argument_in, standing_in, placed, extended_register, extended_second, extended_first, long_operation, sum_operation, made_operation, comparison, joined_word, one_word, is_copying, copied, is_logical, made_size, made, compared, new_home, direct_code, is_direct, waiting_words, direct_by, is_short_constant, literal_word, is_exact, is_sized};
+ghost use Rattle.program_codegen.specs.Homes.{AreHomes, home_of, with_home, all_waiting, home_at, stands_in, is_shared, argument_in, standing_in, placed, extended_register, extended_second, extended_first, long_operation, sum_operation, made_operation, comparison, joined_word, one_word, is_copying, copied, is_logical, made_size, made, compared, new_home, direct_code, is_direct, waiting_words, direct_by, is_short_constant, literal_word, is_exact, is_sized, passed, one_waits};
 ghost use Rattle.program_codegen.specs.Words.{holder, plain};
 
 use crate::lines::{Line, holder, push_words};
+use crate::waits::{only_word, passed};
 use alpha_encode::registers::{TEMPORARIES, ZERO};
 use alpha_encode::{AlphaInstr, OperateOp, Second, operate_by};
 use compute_sequences::compute_words;
@@ -435,6 +436,29 @@ fn waiting_behind(homes: Homes, now: Homes, word: AlphaInstr) -> Homes
     }
 }
 
+/// One word waits in place of a copy that it has no use for, or behind the word before it.
+fn one_waits(
+    lines: &mut Vec<Line>,
+    homes: Homes,
+    now: Homes,
+    word: AlphaInstr,
+) -> Result<Homes, AllocError>
+    requires { AreHomes now }
+    ensures lines { OnOk result (lines.new.items ≡ lines.old.items ++ map plain (one_waits (passed homes.waiting word) homes.before homes.waiting now word).1) }
+    ensures homes { IfOk result (λ behind. behind ≡ (one_waits (passed homes.waiting word) homes.before homes.waiting now word).0) }
+    ensures are { IfOk result AreHomes }
+{
+    if let Some(shorter) = passed(homes.waiting, word) {
+        return Ok(Homes {
+            before: homes.before,
+            waiting: Some(shorter),
+            ..now
+        });
+    }
+    push_waiting(lines, homes.before)?;
+    Ok(waiting_behind(homes, now, word))
+}
+
 /// The words up to a computation, of which a copy has none and one word waits, and where its temporary stands behind them.
 pub(crate) fn push_direct(
     alloc: Global,
@@ -471,7 +495,6 @@ pub(crate) fn push_direct(
         push_waiting(lines, homes.before)?;
         return Ok(waiting_behind(homes, now, word));
     }
-    push_all_waiting(lines, homes)?;
     let words = compute_words(
         alloc,
         op,
@@ -480,6 +503,10 @@ pub(crate) fn push_direct(
         placed(homes, b),
         holder(to),
     )?;
+    if let Some(word) = only_word(&words) {
+        return Ok(one_waits(lines, homes, now, word)?);
+    }
+    push_all_waiting(lines, homes)?;
     push_words(lines, &words)?;
     Ok(Homes {
         before: None,

@@ -17,6 +17,7 @@ mod reached;
 mod spared;
 mod strings;
 mod tested;
+mod waits;
 
 pub use blocks::block;
 pub use entering::long_block;
