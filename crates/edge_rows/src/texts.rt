@@ -1,6 +1,7 @@
 // Parts of a question, and the characters of an answer.
 use anyhow::{Context, Result};
 use std::alloc::{AllocError, Global};
+use std::fmt::Debug;
 
 /// What stands before a sign, and what stands behind it.
 pub fn parted(text: &str, sign: char) -> Result<(&str, &str)> {
@@ -26,6 +27,15 @@ pub fn text_behind(alloc: Global, before: &str, bytes: &[u8]) -> Result<String> 
     let mut text = String::from_str(alloc, before)?;
     push_characters(&mut text, bytes)?;
     Ok(text)
+}
+
+/// A refusal, behind its number if it has one.
+pub fn refusal_text<R: Debug>(alloc: Global, number: Option<u8>, refusal: &R) -> Result<String> {
+    let text = match number {
+        Some(number) => format!(in alloc; "refusal {number}, {refusal:?}"),
+        None => format!(in alloc; "no number, {refusal:?}"),
+    };
+    Ok(text?)
 }
 
 /// The characters of bytes.

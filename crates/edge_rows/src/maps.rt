@@ -1,6 +1,5 @@
 // Questions about maps of addresses.
-use crate::lists::cut;
-use crate::texts::refusal_text;
+use crate::texts::{parted, refusal_text};
 use address_map::{AddressMap, MapRefusal, build};
 use anyhow::{Result, bail};
 use row_tally::{Given, four_fields, longword, pairs};
@@ -25,7 +24,7 @@ pub fn answer(alloc: Global, _given: &Given<'_>, question: &str) -> Result<Strin
     if question == "want of memory" {
         return refused_text(alloc, MapRefusal::WantOfMemory);
     }
-    let (kind, rest) = cut(question)?;
+    let (kind, rest) = parted(question, ' ')?;
     match kind {
         "all" => all_text(alloc, rest),
         "large" => large_text(alloc, rest),

@@ -1,8 +1,8 @@
 // Questions about the files of images.
 ghost use Rattle.image_file.specs.Whole.{IsWhole};
 
-use crate::lists::{bytes_of, cut};
-use crate::texts::refusal_text;
+use crate::spelled::bytes_of;
+use crate::texts::{parted, refusal_text};
 use anyhow::{Result, anyhow, bail};
 use image_file::{Image, read_image, write_image};
 use row_tally::Given;
@@ -37,7 +37,7 @@ fn image_answer(alloc: Global, image: &Image, bytes: &[u8], question: &str) -> R
 
 /// Answers BYTES QUESTION, and for bytes that are no image the refusal.
 pub fn answer(alloc: Global, given: &Given<'_>, question: &str) -> Result<String> {
-    let (pieces, question) = cut(question)?;
+    let (pieces, question) = parted(question, ' ')?;
     let bytes = bytes_of(alloc, given.sample, pieces)?;
     match read_image(alloc, &bytes) {
         Ok(image) => image_answer(alloc, &image, &bytes, question),

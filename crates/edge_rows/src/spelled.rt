@@ -1,12 +1,7 @@
-// Bytes in a question, and its words.
+// Bytes that a question spells.
 use anyhow::{Context, Result};
 use row_tally::{bytes, longword, pieces};
 use std::alloc::Global;
-
-/// The first word of a question, and what is behind it.
-pub fn cut(question: &str) -> Result<(&str, &str)> {
-    question.split_once(' ').context("another word")
-}
 
 /// The numbers beside the sign.
 fn bounds_of(part: &str) -> Result<(u32, u32)> {
