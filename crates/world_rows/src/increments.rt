@@ -3,12 +3,18 @@ ghost use Rattle.std.specs.Prelude.{◌<◌};
 ghost use Rattle.image_file.specs.Whole.{IsWhole};
 
 use crate::histories::matches;
-use crate::images::image_of_two;
+use crate::images::image_of;
 use crate::machine::{Machine, with_byte};
 use anyhow::Result;
 use image_file::Image;
 use row_tally::Tally;
 use std::alloc::Global;
+
+/// Two threads that start at 200 with SP 1200.
+const STARTS: &str = "200=1200,200=1200";
+
+/// INCB @#1000; CHMK #1
+const CODE: &str = "969F00100000BC01";
 
 // What a processor that increments the byte loaded.
 #[derive(Clone, Copy)]
@@ -80,7 +86,7 @@ fn match_at_once(alloc: Global, image: &Image) -> Result<bool>
 /// The threads increment the byte by 1, each by a read and a write: that history matches. One in which they add 2 doesn't, nor one
 /// in which each increments it in one access.
 pub fn increments(rt: &(impl Print + AllocGlobal)) -> Result<Tally> {
-    let image = image_of_two(rt.alloc())?;
+    let image = image_of(rt.alloc(), STARTS, CODE, "-")?;
     let mut tally = Tally::NONE;
     tally.check(rt, "increments", &match_by(rt.alloc(), &image, 1)?, &true)?;
     tally.check(
