@@ -27,7 +27,7 @@ WIDTH = 120
 SECONDS = "300"
 BATCH = 13
 MAIN = re.compile(r"\bfn main\(rt: HostRuntime\)")
-OF_THE_HOST = re.compile(r"^.*\bstandard_streams\(&rt\).*\n", re.M)
+OF_THE_HOST = re.compile(r"^.*\bstandard_streams\(&rt\b.*\n", re.M)
 CASE = re.compile(r"^case=(\S+) (run=\S+(?: status=\d+)?)", re.M)
 BOUNDS = "std::thread::Threads + std::sync::Wait + Sync + AllocGlobal + Print + std::rt::Files + Drop"
 LEFT_OUT = {

@@ -1,10 +1,10 @@
 //! Calls `vest` with the command lines of data/calls.txt, over files and streams in memory, and says for each family of rows
-//! how many leave what stands there.
+//! how many leave what stands there; and the program once over those of the system.
 //!
 //! `lent` and `gates` have what a call is lent beside the files, `call` makes the call, `left`, `numbers` and `memory` have what it
 //! left, and `trial` has what is called beside it: `cuts` goes through beginnings and changes of a translated file, `turns` through the
 //! calls of an object that may fail, `replays` drives the order of each run again, `unkept` makes each run without a history, and `talks`
-//! talks with each run; `bench` says which of these a row asks for.
+//! talks with each run; `bench` says which of these a row asks for. `system` calls the program over the system.
 #![tactic(auto)]
 
 mod bench;
@@ -16,6 +16,7 @@ mod lent;
 mod memory;
 mod numbers;
 mod replays;
+mod system;
 mod talks;
 mod trial;
 mod turns;
@@ -72,5 +73,8 @@ fn run_table<R: Threads + Wait + Sync + AllocGlobal + Print>(rt: &R, table: &str
 
 fn main(rt: HostRuntime) -> Result<()> {
     let table = fs::read_to_string(&rt, TABLE).context(TABLE)?;
-    run_table(&rt, table.as_str())?.verdict()
+    let mut all = Tally::NONE;
+    all.add(system::standard_streams(&rt, rt.stdin(), rt.stdout(), rt.stderr())?);
+    all.add(run_table(&rt, table.as_str())?);
+    all.verdict()
 }
