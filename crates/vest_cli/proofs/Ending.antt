@@ -18,7 +18,8 @@ use Rattle.vest_runs.specs.Kept.{KeptValue, nothing_kept}
 use Rattle.vest_cli.specs.Lent.{Lent, lent}
 use Rattle.vest_cli.specs.Leaving.{LeavesAll}
 use Rattle.vest_cli.specs.Decided.{DecidesCall, DecidesOn, IsOrFault}
-use Rattle.vest_cli.specs.Stopping.{RefusesWords, Says}
+use Rattle.vest_ends.specs.Says.{Says}
+use Rattle.vest_cli.specs.Stopping.{RefusesWords}
 use Rattle.vest_cli.specs.Vest as vest
 use Rattle.vest_cli.specs.Vest.{Does, Ends, StopsAt, done, stopped, unspelled}
 use Rattle.vest_cli.specs.Waiting.{CallWaits, Concludes, HaltsAt, IsHaltDecided, WaitsReady}

@@ -37,7 +37,7 @@ use Rattle.vest_cli.specs.Leaving.{LeavesAll}
 use Rattle.vest_cli.specs.Lent.{Lent, lent}
 use Rattle.vest_cli.specs.Run.{IsTask, Runs, StopsRun, target_of}
 use Rattle.vest_cli.specs.Storing.{name_of}
-use Rattle.vest_cli.specs.Stopping.{Says}
+use Rattle.vest_ends.specs.Says.{Says}
 use Rattle.vest_cli.specs.Vest as vest
 use Rattle.vest_cli.specs.Vest.{Does, Ends, StopsAt, done, stopped}
 use Rattle.vest_cli.specs.Waiting.{CallWaits, CanPut, Finishes, Gives, HaltsBehind, HaltsGenerate, HaltsRun, HasSeveral, IsGenerated, IsHaltDecided, IsReady, IsToRun, WaitsAt, WaitsReady, given, short}

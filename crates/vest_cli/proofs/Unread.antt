@@ -12,7 +12,7 @@ use Rattle.vest_runs.specs.Kept.{KeptValue, nothing_kept}
 use Rattle.vest_cli.specs.Decided.{IsOrFault}
 use Rattle.vest_cli.specs.Lent.{lent}
 use Rattle.vest_cli.specs.Program.{IsCalled}
-use Rattle.vest_cli.specs.Stopping.{Says}
+use Rattle.vest_ends.specs.Says.{Says}
 use Rattle.vest_cli.specs.Vest.{Ends, stopped}
 use Rattle.vest_cli.proofs.Completing.{complete}
 

@@ -38,7 +38,7 @@ use Rattle.vest_runs.specs.Threads.{AreDriven, SpentByBudget}
 use Rattle.vest_cli.specs.Lent.{Lent}
 use Rattle.vest_cli.specs.Replay.{image_in}
 use Rattle.vest_cli.specs.Run.{range_of, target_of}
-use Rattle.vest_cli.specs.Stopping.{Says}
+use Rattle.vest_ends.specs.Says.{Says}
 use Rattle.vest_cli.specs.declared.living.LiveTask.{LiveTask}
 use Rattle.vest_cli.specs.declared.living.Told.{Told}
 

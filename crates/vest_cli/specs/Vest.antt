@@ -21,7 +21,8 @@ use Rattle.vest_cli.specs.Lent.{Lent}
 use Rattle.vest_cli.specs.Live.{Lives, StopsLive}
 use Rattle.vest_cli.specs.Replay.{Replays, StopsReplay}
 use Rattle.vest_cli.specs.Run.{Runs, StopsRun, target_of}
-use Rattle.vest_cli.specs.Stopping.{Stopped, usage_line}
+use Rattle.vest_ends.specs.Says.{usage_line}
+use Rattle.vest_cli.specs.Stopping.{Stopped}
 
 -- neither desk nor input was touched
 pub record Untouched (desk desk' : DeskMeaning) (input input' : SourceMeaning) : Type 0 where

@@ -34,7 +34,7 @@ use Rattle.vest_cli.specs.Decided.{DecidesCall}
 use Rattle.vest_cli.specs.Leaving.{LeavesAll}
 use Rattle.vest_cli.specs.Lent.{Lent}
 use Rattle.vest_cli.specs.Run.{IsTask, StopsRun, target_of}
-use Rattle.vest_cli.specs.Stopping.{Says}
+use Rattle.vest_ends.specs.Says.{Says}
 use Rattle.vest_cli.specs.Storing.{HasRoomFor, Stores, name_of}
 use Rattle.vest_cli.specs.Vest.{StopsAt, Untouched}
 use Rattle.vest_cli.specs.declared.execute.Task.{Task}

@@ -1,16 +1,13 @@
-// How a call ends: its status, and the line that says why it stopped.
-ghost use Rattle.std.specs.Prelude.{◌≡◌};
-ghost use Rattle.vest_stops.specs.Line.{line_of};
-ghost use Rattle.vest_stops.specs.Status.{status_of};
-ghost use Rattle.vest_cli.specs.Stopping.{RefusesWords, Says, usage_line};
+// How a call ends: its status, and the line that says why it stopped; or that it waits.
+ghost use Rattle.vest_cli.specs.Stopping.{RefusesWords};
 ghost use Rattle.vest_cli.specs.Waiting.{Concludes};
 
 use crate::halt::Halt;
 use crate::waiting::Waiting;
 use command_words::WordsFault;
-use report_text::Line;
+use vest_ends::{end, refuse, tell_usage};
 use vest_stops::{Done, Status, Stop};
-use vt_outside::{Sink, write_all};
+use vt_outside::Sink;
 
 /// The status, and where the command stopped, why. A run that waits is given on.
 pub(crate) fn conclude<E: Sink>(
@@ -20,20 +17,10 @@ pub(crate) fn conclude<E: Sink>(
     ensures { Concludes ended result (E.meaning report.old) (E.meaning report.new) }
 {
     match ended {
-        Ok(done) => Ok(done.status()),
-        Err(Halt::Stops(stop)) => Ok(refuse(&stop, report)),
+        Ok(done) => Ok(end(Ok(done), report)),
+        Err(Halt::Stops(stop)) => Ok(end(Err(stop), report)),
         Err(Halt::Waits(waiting)) => Err(waiting),
     }
-}
-
-/// Says why a call stops. A fault of the report changes no status.
-pub(crate) fn refuse<E: Sink>(stop: &Stop, report: &mut E) -> Status
-    ensures status { result ≡ status_of stop.now }
-    ensures line { Says (line_of stop.now) (E.meaning report.old) (E.meaning report.new) }
-{
-    let line = stop.line();
-    let _ = write_all(report, line.as_slice());
-    stop.status()
 }
 
 /// Says why no command was spelled.
@@ -44,21 +31,4 @@ pub(crate) fn refuse_words<E: Sink>(fault: WordsFault, report: &mut E) -> Status
         WordsFault::Usage => tell_usage(report),
         WordsFault::WantOfMemory => refuse(&Stop::WantOfMemory, report),
     }
-}
-
-fn tell_usage<E: Sink>(report: &mut E) -> Status
-    ensures status { result ≡ Status.Usage }
-    ensures line { Says usage_line (E.meaning report.old) (E.meaning report.new) }
-{
-    let line = usage_line();
-    let _ = write_all(report, line.as_slice());
-    Status::Usage
-}
-
-fn usage_line() -> Line
-    ensures { result ≡ usage_line }
-{
-    let mut line = Line::new();
-    line.push_text(b"usage: vest COMMAND WORDS\n");
-    line
 }

@@ -2,7 +2,6 @@
 ghost use Rattle.vest_cli.specs.Lent.{lent};
 ghost use Rattle.vest_cli.specs.Program.{Answers, AnswersSomehow, AreBehindName, IsCalled, no_files, spelled_in, untaken, unread};
 
-use crate::conclude::refuse;
 use crate::top::vest;
 use exact_lists::list_of;
 use std::alloc::Global;
@@ -12,6 +11,7 @@ use std::process::ExitCode;
 use std::rt::Files;
 use std::sync::Wait;
 use std::thread::Threads;
+use vest_ends::refuse;
 use vest_runs::Kept;
 use vest_stops::{Status, Stop};
 use vt_outside::{Desk, FileDesk, Gate, InSource, OpenGate, OutSink, Sink, Source};

@@ -8,13 +8,13 @@ ghost use Rattle.vest_cli.specs.Made.{HasMade};
 ghost use Rattle.vest_cli.specs.Storing.{HasRoomFor, name_of};
 ghost use Rattle.vest_cli.specs.Waiting.{CanPut, Finishes, Gives, HaltsBehind, IsReady, put_out};
 
-use crate::conclude::refuse;
 use crate::execute::{Run, Task, execute, execute_alone, keep_run};
 use crate::halt::Halt;
 use crate::storing::{OrderFile, store};
 use std::alloc::Global;
 use std::sync::Wait;
 use std::thread::Threads;
+use vest_ends::refuse;
 use vest_runs::{Kept, deliver, lines_of};
 use vest_stops::{Done, Status, Stop};
 use vt_outside::{Desk, Gate, Sink};
