@@ -1,6 +1,6 @@
 -- The end of a program whose operands are used where they stand: the codes, the register that is written, and what comes behind.
 use Rattle.std.proofs.Common.{◌≡◌, ℕ, ◌+◌, ◌/◌, ◌%◌, ◌^◌, ◌<◌, ◌≤◌, refl, sym, ap, ◌∙◌, subst, arith, eqb-true, List, [], ◌∷◌, ◌++◌, length, map, Option, Some, None, Bool, true, false, lit<, lit≤, length-append, ◌-◌, inl, inr}
-use Rattle.std.specs.Prelude.{◌==◌, ◌&&◌, ◌||◌, nat_lt, not, is_none, option_and_then, slice_set, unwrap_or, if◌then◌else◌, ◌⊎◌}
+use Rattle.std.specs.Prelude.{◌==◌, ◌&&◌, ◌||◌, nat_lt, not, is_none, slice_set, unwrap_or, if◌then◌else◌, ◌⊎◌}
 use Rattle.std.specs.List.{list_all}
 use Rattle.std.proofs.lemmas.Bool.Decides.{nat_tests}
 use Rattle.std.proofs.lemmas.Bool.{and_parts, ltb-true}
@@ -33,7 +33,7 @@ use Rattle.micro_ops.specs.declared.known.Holding.TheVariants.{Nothing, Wide}
 use Rattle.micro_ops.specs.declared.known.Known.{Known}
 use Rattle.micro_ops.specs.declared.program.Exit.{Exit}
 use Rattle.micro_ops.specs.declared.program.Exit.TheVariants as exits
-use Rattle.micro_ops.specs.Fits.{carry_is_held, exit_fits, exit_holds, is_from_psw, is_from_values, same, signs_are_held, sources_fit}
+use Rattle.micro_ops.specs.Fits.{carry_is_held, exit_fits, exit_holds, same, signs_are_held, sources_fit}
 use Rattle.micro_ops.specs.Known.{held, holds, is_something}
 use Rattle.micro_ops.specs.Leaving.{CodesComeFrom, SignsComeFrom, state_left}
 use Rattle.micro_ops.specs.Meaning.{Departure, Ended, Standing, Temps, departed, leaves_by, traps}
@@ -49,7 +49,7 @@ use Rattle.program_codegen.specs.declared.direct.Raised.{Raised}
 use Rattle.block_law.specs.Tidy.{is_kept}
 use Rattle.program_codegen.specs.declared.homes.Homes.{Homes}
 use Rattle.program_codegen.specs.declared.points.Site.{Site}
-use Rattle.program_codegen.specs.Homes.{AreLasting, IsLasting, are_left, are_short_rules, is_made_there, commit_stays, is_left_alone, commit_words, end_lines, exit_stays, home_at, home_of, is_operand, is_short_rule, may_end, moved_words, none_raised, raised_at, end_words, waiting_words, goes_by, is_left, rewrites, stands_in, with_waiting, IsHome, choice_of, end_by}
+use Rattle.program_codegen.specs.Homes.{AreLasting, IsLasting, are_left, are_short_rules, is_made_there, commit_stays, is_left_alone, commit_words, end_lines, exit_stays, home_at, home_of, is_operand, is_short_rule, may_end, moved_words, none_raised, raised_at, end_words, waiting_words, goes_by, is_left, rewrites, stands_in, with_waiting, choice_of, end_by}
 use Rattle.program_codegen.specs.Programs.{IsExit}
 use Rattle.program_codegen.specs.Words.{departing, departing_by, plain, trap_by}
 use Rattle.program_codegen.proofs.Coded.{Coded, carry_by, coded_by, fine_operates, registers_same, signs_by, sources_parts}
@@ -57,8 +57,8 @@ use Rattle.program_codegen.proofs.Committing.{above, form_register}
 use Rattle.program_codegen.proofs.Computing.{codes_kept, held_still, held_value}
 use Rattle.program_codegen.proofs.Departures.{departs_some, same_psw}
 use Rattle.program_codegen.proofs.Exiting.{chooses, exits_to, kept_apart}
-use Rattle.program_codegen.proofs.HomeCodes.{Moved, held_unread, home_stays, moved_effects}
-use Rattle.program_codegen.proofs.HomeHolding.{Direct, LeftAlone, held_own, hidden, hide, lasting_is, left_alone_is, home_is}
+use Rattle.program_codegen.proofs.HomeCodes.{Moved, home_stays, moved_effects}
+use Rattle.program_codegen.proofs.HomeHolding.{Direct, LeftAlone, held_own, hidden, hide, lasting_is, left_alone_is}
 use Rattle.program_codegen.proofs.HomeChoices.{ByNumber, choice_is}
 use Rattle.program_codegen.proofs.HomeNumbers.{IsExtended}
 use Rattle.program_codegen.proofs.HomeShapes.{moved_fine}

@@ -54,7 +54,7 @@ use Rattle.program_codegen.proofs.Coded.{fine_operates}
 use Rattle.program_codegen.proofs.Endings.{above_codes, codes_local, codes_quiet, departing_each, departing_goes, departing_short, departing_spares, one_word, or_nothing, traps_silent}
 use Rattle.program_codegen.proofs.Following.{opened}
 use Rattle.program_codegen.proofs.Fronts.{Shape, any_neither, quiet_kept, row_targets, row_words_are, silent_front, spares_append, targets, targets_append, words_append, free_front}
-use Rattle.program_codegen.proofs.HomeComputing.{compared_word, made_long, made_word, Joined, Literally, copying, made_operates, compared_operates, sized_unmade, Sized}
+use Rattle.program_codegen.proofs.HomeComputing.{compared_word, made_long, made_word, Joined, Literally, made_operates, compared_operates, sized_unmade, Sized}
 use Rattle.program_codegen.proofs.HomeChoices.{choice_fits, choice_goes, choice_links, choice_quiet}
 use Rattle.program_codegen.proofs.HomeWaiting.{Passed, only_is, passed_fits, passed_is}
 use Rattle.program_codegen.proofs.HomeFollowing.{Stepped, ends_with, stepped, with_exit, row_apart, waits_same, reaching, where_false, where_true}

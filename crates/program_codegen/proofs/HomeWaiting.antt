@@ -1,11 +1,9 @@
 -- A computation of one word waits, and needs no copy before it where it reads what that copies and writes over it.
 use Rattle.std.proofs.Common.{◌≡◌, ℕ, ◌+◌, ◌%◌, ◌^◌, ◌<◌, ◌≤◌, refl, sym, ap, ◌∙◌, subst, arith, List, [], ◌∷◌, Option, Some, None, Bool, true, false, eqb-true, lit≤}
 use Rattle.std.specs.Prelude.{◌==◌, ◌&&◌, ◌||◌, not, nat_lt, option_map, if◌then◌else◌}
-use Rattle.std.specs.List.{list_all}
 use Rattle.std.proofs.lemmas.Bool.Decides.{nat_tests}
 use Rattle.std.proofs.lemmas.Bool.{ltb-true, not-true}
 use Rattle.std.proofs.lemmas.Option.{same_Some}
-use Rattle.vax_form.specs.declared.instr.Size.{Size}
 use Rattle.alpha_encode.specs.Words.{IsFirst}
 use Rattle.alpha_encode.specs.declared.instr.AlphaInstr.{AlphaInstr}
 use Rattle.alpha_encode.specs.declared.instr.AlphaInstr.TheVariants.{Memory, Branch, Operate, Jump, Pal}
@@ -16,8 +14,8 @@ use Rattle.alpha_encode.specs.declared.instr.Second.TheVariants as seconds
 use Rattle.alpha_meaning.specs.Act.{second_value}
 use Rattle.alpha_meaning.specs.Loops.{effect, is_operate}
 use Rattle.alpha_meaning.specs.Pieces.{Runs, Terms}
-use Rattle.alpha_meaning.specs.Result.{long, plus, result_of}
-use Rattle.alpha_meaning.specs.State.{Regs, put}
+use Rattle.alpha_meaning.specs.Result.{result_of}
+use Rattle.alpha_meaning.specs.State.{Regs}
 use Rattle.alpha_meaning.proofs.Registers.{put_other, put_same}
 use Rattle.compute_sequences.specs.Promises.{Leaves, LeavesAt}
 use Rattle.program_codegen.specs.Homes.{copied_to, is_choice, only_word, passed, reads_over, second_reads}

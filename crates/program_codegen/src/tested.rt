@@ -20,7 +20,7 @@ use vax_form::Size;
 const CODES: u8 = 4;
 /// How many temporaries have a register.
 const TEMPORARIES_HELD: u8 = 6;
-/// The registers of the temporaries that may have homes end here.
+/// The registers of the temporaries that may be such a number end here.
 const NUMBERS_END: u8 = TEMPORARIES + 3;
 /// The mask of the lowest bit.
 const LOWEST: u64 = 1;
