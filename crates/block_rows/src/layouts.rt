@@ -14,31 +14,30 @@ use vax_form::{Flags, Size};
 /// Words, the map's pairs, and the points.
 type Code = (Vec<u32>, Vec<(u32, u32)>, Vec<(u32, Point)>);
 
-static WORDS: [u32; 35] = [
-    // to the next block: ZAPNOT R1,#1,R21
-    0x4820_3635,
+static WORDS: [u32; 33] = [
+    // to the next block: BR, since a block has a word
+    0xC3E0_0000,
     // an exit alone, to the first block: BR two words back
     0xC3FF_FFFE,
-    // to no block: ZAPNOT; LDAH R26,2(R31); LDA R26,-32768(R26); CALL_PAL 86
-    0x4820_3635,
+    // to no block: LDAH R26,2(R31); LDA R26,-32768(R26); CALL_PAL 86
     0x275F_0002,
     0x235A_8000,
     0x0000_0086,
-    // to the first block, else to the next: ZAPNOT; BNE R21
+    // to the first block, else to the next: ZAPNOT R1,#1,R21; BNE R21
     0x4820_3635,
-    0xF6BF_FFF8,
+    0xF6BF_FFF9,
     // to the next block, else to the first: ZAPNOT; BEQ R21
     0x4820_3635,
-    0xE6BF_FFF6,
+    0xE6BF_FFF7,
     // to no block, else to the first: ZAPNOT; BEQ R21; LDAH; LDA; CALL_PAL 86
     0x4820_3635,
-    0xE6BF_FFF4,
+    0xE6BF_FFF5,
     0x275F_0002,
     0x235A_8000,
     0x0000_0086,
     // to the first, else to no block: ZAPNOT; BNE R21; LDAH; LDA; CALL_PAL 86
     0x4820_3635,
-    0xF6BF_FFEF,
+    0xF6BF_FFF0,
     0x275F_0002,
     0x235A_8000,
     0x0000_0086,
@@ -57,22 +56,21 @@ static WORDS: [u32; 35] = [
     0x235A_0258,
     0x0000_0082,
     0xC3E0_0000,
-    // the last block, to itself: ZAPNOT; BR two words back
-    0x4820_3635,
-    0xC3FF_FFFE,
+    // the last block, to itself: BR one word back
+    0xC3FF_FFFF,
 ];
 
 static PAIRS: [(u32, u32); 10] = [
     (0x200, 0),
     (0x207, 1),
     (0x20D, 2),
-    (0x212, 6),
-    (0x21A, 8),
-    (0x220, 10),
-    (0x230, 15),
-    (0x240, 20),
-    (0x250, 28),
-    (0x258, 33),
+    (0x212, 5),
+    (0x21A, 7),
+    (0x220, 9),
+    (0x230, 14),
+    (0x240, 19),
+    (0x250, 27),
+    (0x258, 32),
 ];
 
 // each block's first word, and the word of the service
@@ -80,14 +78,14 @@ static POINTS: [(u32, u32); 11] = [
     (0x200, 0),
     (0x207, 1),
     (0x20D, 2),
-    (0x212, 6),
-    (0x21A, 8),
-    (0x220, 10),
-    (0x230, 15),
-    (0x240, 20),
-    (0x250, 28),
-    (0x250, 31),
-    (0x258, 33),
+    (0x212, 5),
+    (0x21A, 7),
+    (0x220, 9),
+    (0x230, 14),
+    (0x240, 19),
+    (0x250, 27),
+    (0x250, 30),
+    (0x258, 32),
 ];
 
 /// The opcode of an instruction that keeps the codes.
@@ -113,7 +111,7 @@ fn block_at(alloc: Global, at: u32, program: &[Micro]) -> Result<Block>
 /// Where no block is.
 const NOWHERE: u32 = 0x1_8000;
 
-/// A word, and an exit to an address.
+/// A word that nothing reads, and an exit to an address.
 fn going(alloc: Global, at: u32, to: u32) -> Result<Block>
     ensures { IfOk result (IsBlockOf false at) }
 {
