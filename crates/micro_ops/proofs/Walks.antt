@@ -1,18 +1,19 @@
 -- Walks over programs, operation by operation.
-use Rattle.std.proofs.Common.{◌≡◌, ℕ, ◌+◌, ◌-◌, ◌<◌, refl, sym, ap, ◌∙◌, Bool, true, false, List, [], ◌∷◌, ◌++◌, length, get_or, take, drop, Option, Some, None, zero-add, add_assoc}
+use Rattle.std.proofs.Common.{◌≡◌, ℕ, zero, suc, ◌+◌, ◌-◌, ◌<◌, refl, sym, ap, ◌∙◌, Bool, true, false, List, [], ◌∷◌, ◌++◌, length, get_or, take, drop, Option, Some, None, zero-add, add_assoc, replicate, arith}
 use Rattle.std.specs.Prelude.{◌&&◌, ◌||◌, not, option_and_then, if◌then◌else◌}
 use Rattle.std.specs.List.{list_all}
 use Rattle.std.proofs.lemmas.Bool.{and_parts}
 use Rattle.std.proofs.lemmas.List.Sums.{sum_by-append, sum_by-cons}
-use Rattle.std.proofs.lemmas.List.{take_rest, drop_more}
+use Rattle.std.proofs.lemmas.List.{take_rest, drop_more, at_drop_all}
 use Rattle.micro_ops.specs.declared.codes.CodeSources.{CodeSources}
 use Rattle.micro_ops.specs.declared.known.Known.{Known}
 use Rattle.micro_ops.specs.declared.program.Micro.{Micro}
 use Rattle.micro_ops.specs.declared.program.Micro.TheVariants.{Compute}
 use Rattle.micro_ops.specs.Fits.{step, walk, names_low, is_low_argument, keeps_low, all_keep_low}
 use Rattle.micro_ops.specs.Uses.{is_codes}
-use Rattle.micro_ops.specs.LeftOut.{is_left_out, is_low}
+use Rattle.micro_ops.specs.LeftOut.{is_left_out, is_low, is_needed, is_used, Tells}
 use Rattle.micro_ops.specs.WordCounts.{words_of, words_with, program_words}
+use Rattle.micro_ops.proofs.Tables.{none_held}
 use Rattle.micro_ops.specs.Laws.{WalksJoined, NoneLeftOut, piece_words, WordsJoined, WordsOfPiece, PieceKeepsLow}
 
 -- ---- the loops
@@ -97,3 +98,44 @@ piece_keeps_low codes (operation ∷ piece) program low =
     let parts = and_parts (names_low operation) (list_all names_low piece) low in
     let here : keeps_low codes operation (piece ++ program) ≡ true = rw parts.0 (or_true (is_codes operation) (is_left_out codes operation (piece ++ program))) in
     rw here (piece_keeps_low codes piece program parts.1)
+
+-- ---- from the end
+needed_or_not : (low used : Bool) → (not low && not used) ≡ not (low || used)
+needed_or_not true used = refl
+needed_or_not false used = refl
+
+-- what is left out is what isn't needed
+pub left_out_unless_needed : (codes : CodeSources) (operation : Micro) (behind : List Micro) → is_left_out codes operation behind ≡ not (is_needed operation (is_used codes behind))
+left_out_unless_needed codes (Compute to op size a b) behind = needed_or_not (is_low to) (is_used codes behind to)
+left_out_unless_needed codes operation behind = refl
+
+pub words_needed : (codes : CodeSources) (operation : Micro) (behind : List Micro) → is_needed operation (is_used codes behind) ≡ true
+    → program_words codes (operation ∷ behind) ≡ words_of operation + program_words codes behind
+words_needed codes operation behind e =
+    ap (λ out. (if out then 0 else words_of operation) + program_words codes behind) (left_out_unless_needed codes operation behind ∙ ap not e)
+
+pub words_left_out : (codes : CodeSources) (operation : Micro) (behind : List Micro) → is_needed operation (is_used codes behind) ≡ false
+    → program_words codes (operation ∷ behind) ≡ program_words codes behind
+words_left_out codes operation behind e =
+    ap (λ out. (if out then 0 else words_of operation) + program_words codes behind) (left_out_unless_needed codes operation behind ∙ ap not e)
+    ∙ zero-add (program_words codes behind)
+
+-- no temporary is used behind the end
+pub none_used : (codes : CodeSources) (program : List Micro) → Tells (replicate 256 false) (is_used codes (drop (length program - 0) program))
+none_used codes program number lt =
+    none_held 256 number lt ∙ sym (at_drop_all (λ rest. is_used codes rest number) program (length program - 0) (omega arith))
+
+pub low_from : (codes : CodeSources) (operation : Micro) (behind : List Micro) (needed : Bool) → needed ≡ is_needed operation (is_used codes behind)
+    → all_keep_low codes (operation ∷ behind) ≡ ((is_codes operation || not needed || names_low operation) && all_keep_low codes behind)
+low_from codes operation behind needed e =
+    ap (λ out. (is_codes operation || out || names_low operation) && all_keep_low codes behind) (left_out_unless_needed codes operation behind ∙ ap not (sym e))
+
+and_false : (a b : Bool) → b ≡ false → (a && b) ≡ false
+and_false true b e = e
+and_false false b e = refl
+
+-- an operation that doesn't keep low, wherever it stands
+pub suffix_low : (codes : CodeSources) (n : ℕ) (program : List Micro) → all_keep_low codes (drop n program) ≡ false → all_keep_low codes program ≡ false
+suffix_low codes zero program e = e
+suffix_low codes (suc n) [] e = e
+suffix_low codes (suc n) (operation ∷ program) e = and_false (keeps_low codes operation program) _ (suffix_low codes n program e)

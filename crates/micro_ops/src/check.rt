@@ -1,12 +1,13 @@
 // Whether a program fits a block.
-ghost use Rattle.std.specs.Prelude.{◌≡◌, ◌&&◌, nat_le};
+ghost use Rattle.std.specs.Prelude.{◌≡◌, ◌&&◌, ◌||◌, not, nat_le};
 ghost use Rattle.micro_ops.specs.Known.{at_start};
-ghost use Rattle.micro_ops.specs.Fits.{walk, is_ended, is_low_argument, is_low_exit, is_low_code, names_low, keeps_low, all_keep_low, most_words, fits};
+ghost use Rattle.micro_ops.specs.Fits.{walk, is_ended, is_low_argument, is_low_exit, is_low_code, names_low, all_keep_low, most_words, fits};
+ghost use Rattle.micro_ops.specs.Uses.{is_codes};
 ghost use Rattle.micro_ops.specs.WordCounts.{program_words};
 
 use crate::codes::CodeSources;
 use crate::known::Known;
-use crate::left_out::{is_left_out, is_low};
+use crate::left_out::{NONE_USED, is_low, is_needed, use_from};
 use crate::program::{Arg, Exit, Micro};
 use crate::steps::step;
 use crate::uses::{is_codes, is_unary};
@@ -91,20 +92,23 @@ fn names_low(operation: Micro) -> bool
     }
 }
 
-/// All but the codes, and what is left out, names the temporaries 0 to 5 alone.
-fn keeps_low(codes: CodeSources, operation: Micro, behind: &[Micro]) -> bool
-    ensures { result ≡ keeps_low codes operation behind.now }
+/// All but the codes, and what isn't needed, names the temporaries 0 to 5 alone.
+fn keeps_low(operation: Micro, needed: bool) -> bool
+    ensures { result ≡ (is_codes operation || not needed || names_low operation) }
 {
-    is_codes(operation) || is_left_out(codes, operation, behind) || names_low(operation)
+    is_codes(operation) || !needed || names_low(operation)
 }
 
 fn all_keep_low(codes: CodeSources, program: &[Micro]) -> bool
     ensures { result ≡ all_keep_low codes program.now }
 {
+    let mut used = NONE_USED;
     for i in 0..program.len() {
-        if !keeps_low(codes, program[i], &program[i + 1..]) {
+        let operation = program[program.len() - 1 - i];
+        if !keeps_low(operation, is_needed(operation, &used)) {
             return false;
         }
+        use_from(codes, operation, &mut used);
     }
     true
 }

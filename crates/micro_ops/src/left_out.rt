@@ -7,7 +7,10 @@ use crate::program::Micro;
 use crate::uses::{Names, read_by, replaced_by};
 
 /// One flag for each temporary that a number can name.
-type Table = [bool; 256];
+pub(crate) type Table = [bool; 256];
+
+/// What nothing stands behind.
+pub(crate) const NONE_USED: Table = [false; 256];
 
 /// Whether a temporary has a register in a block.
 pub fn is_low(temp: u8) -> bool
@@ -22,7 +25,8 @@ fn is_computed(source: CodeSource) -> bool
     matches!(source, CodeSource::Computed(_))
 }
 
-fn is_needed(operation: Micro, later: &Table) -> bool
+/// Whether what an operation computes has words, where those temporaries are used behind it.
+pub(crate) fn is_needed(operation: Micro, later: &Table) -> bool
     ensures { (used : ℕ → Bool) → Tells later.now used → result ≡ is_needed operation used }
 {
     match operation {
@@ -67,7 +71,7 @@ fn set_flag(flags: &mut Table, temp: Option<u8>, flag: bool)
 }
 
 /// Makes the table of those that are used behind an operation that of those used from it on.
-fn use_from(codes: CodeSources, operation: Micro, used: &mut Table)
+pub(crate) fn use_from(codes: CodeSources, operation: Micro, used: &mut Table)
     ensures { (later : ℕ → Bool) → Tells used.old later → Tells used.new (λ temp. uses_from codes (is_needed operation later) (later temp) operation temp) }
 {
     let names = used_now(codes, is_needed(operation, used), operation);
@@ -81,7 +85,7 @@ fn use_from(codes: CodeSources, operation: Micro, used: &mut Table)
 fn used_by(codes: CodeSources, program: &[Micro]) -> Table
     ensures { Tells result (is_used codes program.now) }
 {
-    let mut used = [false; 256];
+    let mut used = NONE_USED;
     for i in 0..program.len() {
         use_from(codes, program[program.len() - 1 - i], &mut used);
     }

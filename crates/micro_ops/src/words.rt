@@ -1,9 +1,9 @@
 // How many words a program counts.
 ghost use Rattle.std.specs.Prelude.{◌≡◌, ◌≤◌, min};
-ghost use Rattle.micro_ops.specs.WordCounts.{by_size, operation_words, argument_words, has_literal, is_literal, second_words, by_count, words_of, words_with, program_words};
+ghost use Rattle.micro_ops.specs.WordCounts.{by_size, operation_words, argument_words, has_literal, is_literal, second_words, by_count, words_of, program_words};
 
 use crate::codes::CodeSources;
-use crate::left_out::is_left_out;
+use crate::left_out::{NONE_USED, is_needed, use_from};
 use crate::program::{Arg, Micro, MicroOp};
 use crate::uses::is_unary;
 use vax_form::Size;
@@ -115,23 +115,18 @@ pub fn words_of(operation: Micro) -> u32
     }
 }
 
-fn words_with(codes: CodeSources, operation: Micro, behind: &[Micro]) -> u32
-    ensures { result ≡ words_with codes operation behind.now }
-{
-    if is_left_out(codes, operation, behind) {
-        0
-    } else {
-        words_of(operation)
-    }
-}
-
 /// How many words a program is counted as, up to `u32::MAX`. What is left out counts nothing.
 pub fn program_words(codes: CodeSources, program: &[Micro]) -> u32
     ensures { result ≡ min (program_words codes program.now) u32.MAX }
 {
+    let mut used = NONE_USED;
     let mut words: u32 = 0;
     for i in 0..program.len() {
-        words = words.saturating_add(words_with(codes, program[i], &program[i + 1..]));
+        let operation = program[program.len() - 1 - i];
+        if is_needed(operation, &used) {
+            words = words.saturating_add(words_of(operation));
+        }
+        use_from(codes, operation, &mut used);
     }
     words
 }
