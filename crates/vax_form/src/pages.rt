@@ -1,5 +1,5 @@
 // The page table: which pages there are, and what may be done to them.
-ghost use Rattle.std.specs.Prelude.{◌≡◌, ◌≤◌, is_some, find};
+ghost use Rattle.std.specs.Prelude.{◌≡◌, ◌≤◌, IfSome, is_some, find, option_map};
 
 use std::marker::Model;
 
@@ -46,7 +46,7 @@ impl Model for Pages {
 }
 
 impl Pages {
-    ghost use Rattle.vax_form.specs.Pages.{is_allowed, has_code, is_code, code_byte_at, first_bad};
+    ghost use Rattle.vax_form.specs.Pages.{is_allowed, has_code, is_code, code_byte_at, code_from, AreCode, first_bad};
     ghost use Rattle.vax_form.specs.Parts.{parts, first_bad_part};
 
     /// Whether the byte at the address may be used: its page is in a range, and the range is writable where `write`
@@ -69,6 +69,18 @@ impl Pages {
         let range = self.code_range(address)?;
         let place = range.place + (address - PAGE_SIZE * range.first);
         Some(code[place as usize])
+    }
+
+    /// The bytes from an address in a read-only page on, up to the end of its range.
+    pub fn code_from(&self, address: u32) -> Option<&[u8]>
+        ensures bytes { option_map (λ bytes. bytes.now) result ≡ code_from self.now address }
+        ensures stand { IfSome result (λ bytes. AreCode self.now address bytes.now) }
+    {
+        let code = &self.code;
+        let range = self.code_range(address)?;
+        let start = range.place + (address - PAGE_SIZE * range.first);
+        let end = range.place + PAGE_SIZE * range.count;
+        Some(&code[start as usize..end as usize])
     }
 
     fn code_range(&self, address: u32) -> Option<PageRange>
