@@ -13,11 +13,14 @@ pub(crate) fn fetch(pages: &Pages, pc: u32) -> ([u8; LONGEST], usize)
     ensures bytes { take result.1 result.0 ≡ fetched pages.now pc 64 }
 {
     let mut bytes = [0; LONGEST];
-    for i in 0..LONGEST {
-        let Some(byte) = pages.code_byte(pc.wrapping_add(i as u32)) else {
-            return (bytes, i);
+    let mut count = 0;
+    while count < LONGEST {
+        let Some(run) = pages.code_from(pc.wrapping_add(count as u32)) else {
+            return (bytes, count);
         };
-        bytes[i] = byte;
+        let more = run.len().min(LONGEST - count);
+        bytes[count..count + more].copy_from_slice(&run[..more]);
+        count += more;
     }
-    (bytes, LONGEST)
+    (bytes, count)
 }
