@@ -26,7 +26,9 @@ use Rattle.program_codegen.specs.declared.homes.Homes.{Homes}
 use Rattle.program_codegen.specs.declared.lines.Line.{Line}
 use Rattle.program_codegen.specs.declared.points.Site.{Site}
 use Rattle.program_codegen.specs.Blocks.{block_lines, chosen_lines}
-use Rattle.program_codegen.specs.Homes.{choice_lines, choice_of, direct_end, direct_lines, direct_step, end_at, end_words, home_of, next_exit, no_homes, tested_at, tested_exit, reach, all_waiting, tested_words}
+use Rattle.program_codegen.specs.Homes.{home_of, no_homes, all_waiting}
+use Rattle.program_codegen.specs.Ends.{choice_of, direct_end, end_at, end_words}
+use Rattle.program_codegen.specs.Direct.{choice_lines, direct_lines, direct_step, next_exit, tested_at, tested_exit, reach, tested_words}
 use Rattle.program_codegen.specs.Programs.{AllHaveWords, KeepsTogether, LeavesReady, ReadsReady}
 use Rattle.program_codegen.specs.Promises.{BeginsBy}
 use Rattle.program_codegen.specs.Words.{block_of, departing_by, plain, program_lines, trap_by}

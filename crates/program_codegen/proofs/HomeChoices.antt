@@ -25,7 +25,8 @@ use Rattle.micro_ops.specs.declared.program.Exit.{Exit}
 use Rattle.micro_ops.specs.declared.program.Exit.TheVariants as exits
 use Rattle.program_codegen.specs.declared.homes.Homes.{Homes}
 use Rattle.program_codegen.specs.declared.points.Site.{Site}
-use Rattle.program_codegen.specs.Homes.{choice_at, choice_by, choice_of, exit_stays, home_at, is_number, stands_in, zero_test}
+use Rattle.program_codegen.specs.Homes.{home_at, stands_in}
+use Rattle.program_codegen.specs.Ends.{choice_at, choice_by, choice_of, exit_stays, is_number, zero_test}
 use Rattle.program_codegen.specs.Programs.{IsExit}
 use Rattle.program_codegen.specs.Words.{departing_by, words_of}
 use Rattle.program_codegen.proofs.Numbers.{all_three}

@@ -20,7 +20,8 @@ use Rattle.alpha_meaning.specs.State.{Regs, put}
 use Rattle.alpha_meaning.proofs.Registers.{put_same, put_other}
 use Rattle.block_law.specs.CodeWords.{may_be_written}
 use Rattle.micro_ops.specs.declared.codes.CodeSources.{CodeSources}
-use Rattle.program_codegen.specs.Homes.{AreLasting, IsLasting, compared_raised, have_homes, home_at, is_choice, is_operand, is_operand_second, is_raised, lowered_word, moved_both, moved_by, moved_first, moved_from, moved_operand, moved_step, moved_word, raised_at, raised_home, raised_second, raised_step, second_home, unmoved, when, with_raised, with_word}
+use Rattle.program_codegen.specs.Homes.{AreLasting, IsLasting, home_at, is_choice}
+use Rattle.program_codegen.specs.Ends.{compared_raised, have_homes, is_operand, is_operand_second, is_raised, lowered_word, moved_both, moved_by, moved_first, moved_from, moved_operand, moved_step, moved_word, raised_at, raised_home, raised_second, raised_step, second_home, unmoved, when, with_raised, with_word}
 use Rattle.program_codegen.specs.declared.direct.Raised.{Raised}
 use Rattle.program_codegen.specs.declared.homes.Homes.{Homes}
 use Rattle.program_codegen.proofs.Numbers.{all_three}

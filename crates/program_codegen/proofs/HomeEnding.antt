@@ -49,7 +49,8 @@ use Rattle.program_codegen.specs.declared.direct.Raised.{Raised}
 use Rattle.block_law.specs.Tidy.{is_kept}
 use Rattle.program_codegen.specs.declared.homes.Homes.{Homes}
 use Rattle.program_codegen.specs.declared.points.Site.{Site}
-use Rattle.program_codegen.specs.Homes.{AreLasting, IsLasting, are_left, are_short_rules, is_made_there, commit_stays, is_left_alone, commit_words, end_lines, exit_stays, home_at, home_of, is_operand, is_short_rule, may_end, moved_words, none_raised, raised_at, end_words, waiting_words, goes_by, is_left, rewrites, stands_in, with_waiting, choice_of, end_by}
+use Rattle.program_codegen.specs.Homes.{AreLasting, IsLasting, home_at, home_of, waiting_words, stands_in}
+use Rattle.program_codegen.specs.Ends.{are_left, are_short_rules, is_made_there, commit_stays, is_left_alone, commit_words, end_lines, exit_stays, is_operand, is_short_rule, may_end, moved_words, none_raised, raised_at, end_words, goes_by, is_left, rewrites, with_waiting, choice_of, end_by}
 use Rattle.program_codegen.specs.Programs.{IsExit}
 use Rattle.program_codegen.specs.Words.{departing, departing_by, plain, trap_by}
 use Rattle.program_codegen.proofs.Coded.{Coded, carry_by, coded_by, fine_operates, registers_same, signs_by, sources_parts}

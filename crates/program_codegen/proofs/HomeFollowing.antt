@@ -42,7 +42,9 @@ use Rattle.program_codegen.proofs.HomeReaching.{direct_checks, direct_reads, dir
 use Rattle.program_codegen.specs.declared.homes.Homes.{Homes}
 use Rattle.program_codegen.specs.declared.lines.Line.{Line}
 use Rattle.program_codegen.specs.declared.points.Site.{Site}
-use Rattle.program_codegen.specs.Homes.{are_left, are_short_rules, choice_lines, commit_stays, copied, direct_by, direct_code, direct_end, direct_lines, direct_step, end_at, end_lines, end_words, exit_behind, exit_stays, is_direct, made, may_end, moved_words, new_home, next_exit, step_by, tested_at, tested_exit, waiting_words, with_home, is_shared, may_write, reach, reached, read_home, reading, settled, stands, compared, tested_words, all_waiting, behind_waiting, choice_of, code_by, only_word, one_waits, passed, words_wait, placed}
+use Rattle.program_codegen.specs.Homes.{copied, direct_by, direct_code, made, new_home, step_by, waiting_words, with_home, is_shared, compared, all_waiting, code_by, only_word, one_waits, passed, words_wait, placed}
+use Rattle.program_codegen.specs.Ends.{are_left, are_short_rules, commit_stays, direct_end, end_at, end_lines, end_words, exit_behind, exit_stays, may_end, moved_words, choice_of}
+use Rattle.program_codegen.specs.Direct.{choice_lines, direct_lines, direct_step, is_direct, next_exit, tested_at, tested_exit, may_write, reach, reached, read_home, reading, settled, stands, tested_words, behind_waiting}
 use Rattle.program_codegen.specs.Programs.{AllHaveWords, ReadsReady}
 use Rattle.program_codegen.specs.Words.{departing_by, plain, trap_by, copy, marked, probing, write_by}
 use Rattle.program_codegen.proofs.Committing.{sets_codes}

@@ -15,7 +15,8 @@ use Rattle.byte_sequences.proofs.ExtendedLaws.{extended_encodable}
 use Rattle.program_codegen.specs.declared.homes.Homes.{Homes}
 use Rattle.program_codegen.specs.declared.lines.Line.{Line}
 use Rattle.program_codegen.specs.declared.points.Site.{Site}
-use Rattle.program_codegen.specs.Homes.{AreHomes, is_extended, is_shared, may_write, read_home, reached, reading, settled, stands, with_home}
+use Rattle.program_codegen.specs.Homes.{AreHomes, is_shared, with_home}
+use Rattle.program_codegen.specs.Direct.{is_extended, may_write, read_home, reached, reading, settled, stands}
 use Rattle.program_codegen.specs.Words.{copy, holder, marked, plain, probing, read_by, write_by}
 use Rattle.program_codegen.proofs.Beginning.{Starts, row}
 use Rattle.program_codegen.proofs.Endings.{above_codes}

@@ -26,7 +26,9 @@ use Rattle.block_law.specs.Placements.{Placement}
 use Rattle.block_law.specs.Tidy.{is_kept}
 use Rattle.program_codegen.specs.declared.homes.Homes.{Homes}
 use Rattle.program_codegen.specs.declared.points.Site.{Site}
-use Rattle.program_codegen.specs.Homes.{AreHomes, AreLasting, IsHome, IsLasting, are_left, argument_in, copied, extended_register, home_of, is_copying, is_left_alone, is_made_there, placed, standing_in, stands_in, with_home, is_exact}
+use Rattle.program_codegen.specs.Homes.{AreHomes, AreLasting, IsHome, IsLasting, argument_in, copied, extended_register, home_of, is_copying, placed, standing_in, stands_in, with_home}
+use Rattle.program_codegen.specs.Ends.{are_left, is_left_alone, is_made_there}
+use Rattle.program_codegen.specs.Direct.{is_exact}
 use Rattle.program_codegen.specs.Programs.{rule_of}
 use Rattle.program_codegen.proofs.Computing.{argument_is, argument_quad, checks_written, held_still, unchanged}
 use Rattle.program_codegen.proofs.HomeNumbers.{IsExtended}

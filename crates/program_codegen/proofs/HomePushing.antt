@@ -12,7 +12,9 @@ use Rattle.micro_ops.specs.declared.program.Micro.TheVariants.{Compute, Probe, R
 use Rattle.program_codegen.specs.declared.homes.Homes.{Homes}
 use Rattle.program_codegen.specs.declared.lines.Line.{Line}
 use Rattle.program_codegen.specs.declared.points.Site.{Site}
-use Rattle.program_codegen.specs.Homes.{AreHomes, direct_lines, end_at, exit_behind, direct_step, either_of, goes_on, homes_at, in_lines, lines_at, step_at, tested_at}
+use Rattle.program_codegen.specs.Homes.{AreHomes}
+use Rattle.program_codegen.specs.Ends.{end_at, exit_behind}
+use Rattle.program_codegen.specs.Direct.{direct_lines, direct_step, either_of, goes_on, homes_at, in_lines, lines_at, step_at, tested_at}
 use Rattle.program_codegen.specs.Programs.{AllFitWords, AllRanged, IsExit, IsRanged, IsRangedExit, RangedToLeave}
 use Rattle.program_codegen.specs.Words.{plain}
 

@@ -40,7 +40,8 @@ use Rattle.program_codegen.specs.declared.homes.Homes.{Homes}
 use Rattle.program_codegen.specs.declared.lines.Line.{Line}
 use Rattle.program_codegen.specs.declared.points.Site.{Site}
 use Rattle.program_codegen.specs.Accesses.{needed}
-use Rattle.program_codegen.specs.Homes.{AreHomes, IsHome, home_of, is_extended, is_shared, may_write, read_home, reading, settled, stands, with_home}
+use Rattle.program_codegen.specs.Homes.{AreHomes, IsHome, home_of, is_shared, with_home}
+use Rattle.program_codegen.specs.Direct.{is_extended, may_write, read_home, reading, settled, stands}
 use Rattle.program_codegen.specs.Words.{copy, holder, marked, plain, probing, read_by, write_by}
 use Rattle.program_codegen.proofs.Accessing.{is_probed, kept_not_27, kept_not_scratch, kept_not_scratch_or, longword_value, read_holds, values_outlast, zero_not_scratch_or}
 use Rattle.program_codegen.proofs.Computing.{held_still, held_value, unchanged}

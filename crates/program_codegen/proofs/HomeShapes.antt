@@ -15,7 +15,8 @@ use Rattle.alpha_encode.specs.declared.instr.Second.{Second}
 use Rattle.alpha_encode.specs.declared.instr.Second.TheVariants.{Register, Literal}
 use Rattle.alpha_meaning.specs.Loops.{fine, is_operate, written}
 use Rattle.block_law.specs.Tidy.{register_written, writes_register}
-use Rattle.program_codegen.specs.Homes.{AreLasting, IsLasting, compared_raised, have_homes, home_at, is_choice, is_operand, is_operand_second, is_raised, lowered_word, moved_both, moved_by, moved_first, moved_from, moved_operand, moved_step, moved_word, moved_words, none_raised, raised_at, raised_home, raised_second, raised_step, second_home, unmoved, with_raised, with_word}
+use Rattle.program_codegen.specs.Homes.{AreLasting, IsLasting, home_at, is_choice}
+use Rattle.program_codegen.specs.Ends.{compared_raised, have_homes, is_operand, is_operand_second, is_raised, lowered_word, moved_both, moved_by, moved_first, moved_from, moved_operand, moved_step, moved_word, moved_words, none_raised, raised_at, raised_home, raised_second, raised_step, second_home, unmoved, with_raised, with_word}
 use Rattle.program_codegen.specs.declared.direct.Raised.{Raised}
 use Rattle.program_codegen.specs.declared.homes.Homes.{Homes}
 use Rattle.program_codegen.proofs.HomeCodes.{home_is, split, when_picked, when_some}

@@ -47,7 +47,9 @@ use Rattle.program_codegen.proofs.HomeFronts.{probe_front, read_front, write_fro
 use Rattle.program_codegen.specs.declared.homes.Homes.{Homes}
 use Rattle.program_codegen.specs.declared.lines.Line.{Line}
 use Rattle.program_codegen.specs.declared.points.Site.{Site}
-use Rattle.program_codegen.specs.Homes.{AreHomes, IsHome, are_left, are_short_rules, code_by, commit_stays, compared, comparison, copied, direct_code, direct_lines, direct_step, end_lines, exit_behind, exit_stays, extended_first, extended_second, home_by, home_of, is_copying, is_shared, long_operation, made, made_operation, may_end, moved_words, new_home, placed, standing_in, with_home, end_words, step_by, waiting_words, choice_lines, next_exit, tested_at, tested_exit, is_short_constant, made_size, needed_words, is_extended, may_write, read_home, reading, settled, stands, all_waiting, is_exact, is_sized, choice_of, only_word, one_waits, passed, words_wait}
+use Rattle.program_codegen.specs.Homes.{AreHomes, IsHome, code_by, compared, comparison, copied, direct_code, extended_first, extended_second, home_by, home_of, is_copying, is_shared, long_operation, made, made_operation, new_home, placed, standing_in, with_home, step_by, waiting_words, is_short_constant, made_size, all_waiting, only_word, one_waits, passed, words_wait}
+use Rattle.program_codegen.specs.Ends.{are_left, are_short_rules, commit_stays, end_lines, exit_behind, exit_stays, may_end, moved_words, end_words, choice_of}
+use Rattle.program_codegen.specs.Direct.{direct_lines, direct_step, choice_lines, next_exit, tested_at, tested_exit, needed_words, is_extended, may_write, read_home, reading, settled, stands, is_exact, is_sized}
 use Rattle.program_codegen.specs.Programs.{AllHaveWords, IsExit}
 use Rattle.program_codegen.specs.Words.{departing_by, exit_lines, plain, trap_by, words_of, copy, marked, probing, write_by}
 use Rattle.program_codegen.proofs.Coded.{fine_operates}

@@ -3,7 +3,7 @@ use Rattle.std.proofs.Common.{◌≡◌, refl, List, Option, Some, None, inl, in
 use Rattle.std.specs.Prelude.{◌⊎◌, option_and_then, option_map}
 use Rattle.std.proofs.lemmas.Option.{same_Some}
 use Rattle.program_codegen.specs.declared.lines.Line.{Line}
-use Rattle.program_codegen.specs.Homes.{either_of}
+use Rattle.program_codegen.specs.Direct.{either_of}
 
 pub record Mapped (A B : Type 0) (f : A → B) (o : Option A) (y : B) : Type 0 where
   pub found : A

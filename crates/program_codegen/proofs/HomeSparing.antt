@@ -23,7 +23,8 @@ use Rattle.alpha_meaning.proofs.Registers.{put_other, put_same}
 use Rattle.block_law.specs.Tidy.{register_written, writes_register}
 use Rattle.micro_ops.specs.declared.program.Exit.{Exit}
 use Rattle.program_codegen.specs.declared.homes.Homes.{Homes}
-use Rattle.program_codegen.specs.Homes.{AreHomes, commit_stays, is_left_alone, commit_words, end_words, home_of, is_choice, into, second_reads, spared_word, spared_words, waiting_words, word_reads, copies_from, goes_by, is_left, leaves_made, makes_home, with_spared, with_waiting}
+use Rattle.program_codegen.specs.Homes.{AreHomes, home_of, is_choice, second_reads, waiting_words}
+use Rattle.program_codegen.specs.Ends.{commit_stays, is_left_alone, commit_words, end_words, into, spared_word, spared_words, word_reads, copies_from, goes_by, is_left, leaves_made, makes_home, with_spared, with_waiting}
 use Rattle.program_codegen.proofs.HomeCodes.{held_unread}
 use Rattle.program_codegen.proofs.Fronts.{free_spares}
 use Rattle.program_codegen.proofs.HomeHolding.{home_is}

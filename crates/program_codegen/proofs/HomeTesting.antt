@@ -42,7 +42,9 @@ use Rattle.block_law.proofs.Rules.{Always, operates, passes, roomy, skips}
 use Rattle.program_codegen.specs.declared.homes.Homes.{Homes}
 use Rattle.program_codegen.specs.declared.lines.Line.{Line}
 use Rattle.program_codegen.specs.declared.points.Site.{Site}
-use Rattle.program_codegen.specs.Homes.{AreHomes, are_left, are_short_rules, bit_register, bit_test, byte_test, choice_lines, code_test, copied, home_of, is_direct, made, may_test, moved_words, new_home, placed, standing_in, test_of, tested_exit, waiting_words, with_home, home_by, is_short_constant, long_test, needed_words, tested_words}
+use Rattle.program_codegen.specs.Homes.{AreHomes, copied, home_of, made, new_home, placed, standing_in, waiting_words, with_home, home_by, is_short_constant}
+use Rattle.program_codegen.specs.Ends.{are_left, are_short_rules, moved_words}
+use Rattle.program_codegen.specs.Direct.{bit_register, bit_test, byte_test, choice_lines, code_test, is_direct, may_test, test_of, tested_exit, long_test, needed_words, tested_words}
 use Rattle.program_codegen.specs.Programs.{rule_of}
 use Rattle.program_codegen.specs.Words.{exit_lines, may_trap, plain}
 use Rattle.program_codegen.proofs.Coded.{Coded}

@@ -1,8 +1,8 @@
 -- A computation of one word waits, and needs no copy before it where it reads what that copies and writes over it.
-use Rattle.std.proofs.Common.{◌≡◌, ℕ, ◌+◌, ◌%◌, ◌^◌, ◌<◌, ◌≤◌, refl, sym, ap, ◌∙◌, subst, arith, List, [], ◌∷◌, Option, Some, None, Bool, true, false, eqb-true, lit≤}
-use Rattle.std.specs.Prelude.{◌==◌, ◌&&◌, ◌||◌, not, nat_lt, option_map, if◌then◌else◌}
+use Rattle.std.proofs.Common.{◌≡◌, ℕ, ◌<◌, refl, sym, ap, ◌∙◌, subst, arith, List, [], ◌∷◌, Option, Some, None, Bool, true, false, eqb-true, lit≤}
+use Rattle.std.specs.Prelude.{◌==◌, ◌&&◌, not, nat_lt, option_map, if◌then◌else◌}
 use Rattle.std.proofs.lemmas.Bool.Decides.{nat_tests}
-use Rattle.std.proofs.lemmas.Bool.{ltb-true, not-true}
+use Rattle.std.proofs.lemmas.Bool.{and_parts, ltb-true, not-true}
 use Rattle.std.proofs.lemmas.Option.{same_Some}
 use Rattle.alpha_encode.specs.Words.{IsFirst}
 use Rattle.alpha_encode.specs.declared.instr.AlphaInstr.{AlphaInstr}
@@ -18,10 +18,10 @@ use Rattle.alpha_meaning.specs.Result.{result_of}
 use Rattle.alpha_meaning.specs.State.{Regs}
 use Rattle.alpha_meaning.proofs.Registers.{put_other, put_same}
 use Rattle.compute_sequences.specs.Promises.{Leaves, LeavesAt}
-use Rattle.program_codegen.specs.Homes.{copied_to, is_choice, only_word, passed, reads_over, second_reads}
+use Rattle.program_codegen.specs.Homes.{copied_to, is_choice, is_temporary, only_word, passed, reads_over, second_reads}
 use Rattle.program_codegen.proofs.HomeCodes.{held_unread}
 use Rattle.program_codegen.proofs.HomeNumbers.{IsExtended}
-use Rattle.program_codegen.proofs.Numbers.{all_three, all_five, committed_is}
+use Rattle.program_codegen.proofs.Numbers.{all_three, all_four, committed_is}
 
 -- ---- one word
 pub only_is : (words : List AlphaInstr) (word : AlphaInstr) → only_word words ≡ Some word → (words ≡ word ∷ []) × (is_operate word ≡ true)
@@ -87,7 +87,8 @@ passed_is waiting (Operate op first second to) shorter e = by (reads_over op fir
   where
     by : (c : Bool) → reads_over op first second to ≡ c → (o : Option ℕ) → copied_to to waiting ≡ o → (if c then option_map (λ from. Operate op from second to) o else None) ≡ Some shorter → Passed waiting (Operate op first second to) shorter
     by true is (Some from) f e =
-        let x = all_five (first == to) (not (second_reads second to)) (not (is_choice op)) (nat_lt 20 to) (nat_lt to 27) is in
+        let x = all_four (first == to) (not (second_reads second to)) (not (is_choice op)) (is_temporary to) is in
+        let bounds = and_parts (nat_lt 20 to) (nat_lt to 27) x.3 in
         let c = copied_is to waiting from f in
         record {
           operation = op;
@@ -98,8 +99,8 @@ passed_is waiting (Operate op first second to) shorter e = by (reads_over op fir
           is_word = ap (λ n. Operate op n second to) (eqb-true first to x.0);
           is = sym (same_Some (Operate op from second to) shorter e);
           register = c.register;
-          high = ltb-true 20 to x.3;
-          low = ltb-true to 27 x.4;
+          high = ltb-true 20 to bounds.0;
+          low = ltb-true to 27 bounds.1;
           unread = not-true (second_reads second to) x.1;
           unheld = not-true (is_choice op) x.2;
         }

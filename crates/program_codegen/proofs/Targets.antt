@@ -26,7 +26,9 @@ use Rattle.program_codegen.specs.declared.lines.Line.{Line}
 use Rattle.program_codegen.specs.declared.points.Site.{Site}
 use Rattle.program_codegen.specs.Strings.{behind_words, move_words, operands_of, steps_of as steps_of_move, string_block, string_check, string_lines, string_site}
 use Rattle.program_codegen.specs.Blocks.{chosen_lines, program_block}
-use Rattle.program_codegen.specs.Homes.{direct_end, direct_lines, direct_step, either_of, end_at, next_exit, no_homes, tested_at, tested_exit, is_extended, is_shared, may_write, read_home, reading, settled, stands, with_home, all_waiting, behind_waiting}
+use Rattle.program_codegen.specs.Homes.{no_homes, is_shared, with_home, all_waiting}
+use Rattle.program_codegen.specs.Ends.{direct_end, end_at}
+use Rattle.program_codegen.specs.Direct.{direct_lines, direct_step, either_of, next_exit, tested_at, tested_exit, is_extended, may_write, read_home, reading, settled, stands, behind_waiting}
 use Rattle.program_codegen.specs.Calls.{align_frame, call_at, call_block, call_lines, call_site, check_lines, checks_from, count_lines, displacement, entry_words, frame_of, frame_program, front_program, list_program, pushes_from, steps_of}
 use Rattle.program_codegen.specs.Words.{block_of, exit_lines, holder, lines_of, plain, point_of, points_alone, points_from, program_lines, read_by, site_of, with_entry, with_first, write_by, copy, marked, probing}
 

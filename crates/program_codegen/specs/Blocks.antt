@@ -9,7 +9,8 @@ use Rattle.micro_ops.specs.declared.program.Micro.{Micro}
 use Rattle.program_codegen.specs.declared.lines.Line.{Line}
 use Rattle.program_codegen.specs.declared.points.Site.{Site}
 use Rattle.program_codegen.specs.Words.{block_of, point_of, program_lines, site_of, with_first}
-use Rattle.program_codegen.specs.Homes.{direct_lines, no_homes}
+use Rattle.program_codegen.specs.Homes.{no_homes}
+use Rattle.program_codegen.specs.Direct.{direct_lines}
 
 -- operands are used where they stand, if they can be
 abbrev pub chosen_lines : Site → (codes : List AlphaInstr) → List Micro → List Line

@@ -1,5 +1,7 @@
 pub mod Words
 pub mod Homes
+pub mod Ends
+pub mod Direct
 pub mod Blocks
 pub mod Calls
 pub mod Strings

@@ -1,7 +1,9 @@
 // The words of programs whose operands are used where they stand.
 ghost use Rattle.std.specs.Prelude.{◌≡◌, ◌++◌, ◌∷◌, IfOk, IfSome, OnOk, MatchOption, None, Some, map, true};
 ghost use Rattle.program_codegen.specs.Words.{plain};
-ghost use Rattle.program_codegen.specs.Homes.{is_operand, is_operand_second, second_home, unmoved, moved_operand, moved_both, moved_first, moved_by, is_raised, raised_at, raised_second, with_raised, have_homes, raised_home, compared_raised, moved_word, moved_step, moved_words, is_short_rule, are_short_rules, is_wordless, exit_of, exit_behind, with_commit, end_at, exit_stays, commit_stays, commit_words, is_made_there, are_left, may_end, direct_end, end_lines, ended_lines, goes_on, homes_at, step_at, lines_at, direct_lines, no_homes, AreHomes, end_words};
+ghost use Rattle.program_codegen.specs.Homes.{no_homes, AreHomes};
+ghost use Rattle.program_codegen.specs.Ends.{is_operand, is_operand_second, second_home, unmoved, moved_operand, moved_both, moved_first, moved_by, is_raised, raised_at, raised_second, with_raised, have_homes, raised_home, compared_raised, moved_word, moved_step, moved_words, is_short_rule, are_short_rules, is_wordless, exit_of, exit_behind, with_commit, end_at, exit_stays, commit_stays, commit_words, is_made_there, are_left, may_end, direct_end, end_lines, end_words};
+ghost use Rattle.program_codegen.specs.Direct.{ended_lines, goes_on, homes_at, step_at, lines_at, direct_lines};
 ghost use Rattle.program_codegen.specs.Programs.{AllFitWords, HasWords, IsExit, IsRanged, IsRangedExit, RangedToLeave, is_narrow};
 
 use crate::homes::{Homes, NO_HOMES, home_at, home_of, is_direct, push_direct, stands_in};

@@ -6,7 +6,7 @@ ghost use Rattle.program_codegen.specs.Calls.{align_frame, check_lines, checks_f
 ghost use Rattle.program_codegen.specs.Words.{plain};
 
 use crate::calls::{Call, FIRST_TEMP, FRAME_TEMP, LIST_TEMP, VALUE_TEMP};
-use crate::lines::{Line, holder, marked, plain, push_words};
+use crate::lines::{Line, VAX_REGISTERS, holder, marked, plain, push_words};
 use crate::operations::{PROBE, write_by};
 use crate::points::{Site, probing};
 use alpha_encode::registers::{ADDRESS, BYTES, STATUS, TEMPORARIES, ZERO};
@@ -154,7 +154,7 @@ fn status_words(call: Call) -> [AlphaInstr; 6]
 fn step(steps: &Steps, number: u8) -> u32
     ensures { result ≡ slice_index steps.now number }
 {
-    if number < 15 {
+    if number < VAX_REGISTERS {
         steps[number as usize]
     } else {
         0

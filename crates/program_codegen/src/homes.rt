@@ -3,10 +3,11 @@ ghost use Rattle.std.specs.Prelude.{◌≡◌, ◌++◌, ◌≤◌, OnOk, IfOk, 
 ghost use Rattle.compute_sequences.specs.Registers.{IsArgument, IsTarget};
 ghost use Rattle.compute_sequences.specs.Words.{is_moved};
 ghost use Rattle.micro_ops.specs.Uses.{is_unary};
-ghost use Rattle.program_codegen.specs.Homes.{AreHomes, home_of, with_home, all_waiting, home_at, stands_in, is_shared, argument_in, standing_in, placed, extended_register, extended_second, extended_first, long_operation, sum_operation, made_operation, comparison, joined_word, one_word, is_copying, copied, is_logical, made_size, made, compared, new_home, direct_code, is_direct, waiting_words, direct_by, is_short_constant, literal_word, is_exact, is_sized, passed, one_waits};
+ghost use Rattle.program_codegen.specs.Homes.{AreHomes, home_of, with_home, all_waiting, home_at, stands_in, is_shared, argument_in, standing_in, placed, extended_register, extended_second, extended_first, long_operation, sum_operation, made_operation, comparison, joined_word, one_word, is_copying, copied, is_logical, made_size, made, compared, new_home, direct_code, waiting_words, direct_by, is_short_constant, literal_word, passed, one_waits};
+ghost use Rattle.program_codegen.specs.Direct.{is_direct, is_exact, is_sized};
 ghost use Rattle.program_codegen.specs.Words.{holder, plain};
 
-use crate::lines::{Line, holder, push_words};
+use crate::lines::{Line, VAX_REGISTERS, holder, push_words};
 use crate::waits::{only_word, passed};
 use alpha_encode::registers::{TEMPORARIES, ZERO};
 use alpha_encode::{AlphaInstr, OperateOp, Second, operate_by};
@@ -15,8 +16,6 @@ use micro_ops::{Arg, MicroOp};
 use std::alloc::{AllocError, Global};
 use vax_form::{Size, WantOfMemory};
 
-/// How many registers of the VAX a program reads.
-const VAX_REGISTERS: u8 = 15;
 /// The temporary of a result.
 const RESULT: u8 = 2;
 /// That of the place of a reference.

@@ -1,12 +1,15 @@
 // The words of a block with their points and exits, and the block that they make.
 ghost use Rattle.std.specs.Prelude.{◌≡◌, ◌++◌, ◌≤◌, Some, None, length, map, IfOk, OnOk, []};
+ghost use Rattle.program_codegen.specs.Homes.{is_temporary};
 ghost use Rattle.program_codegen.specs.Words.{plain, marked, exit_lines, holder, copy, with_first, words_of, points_from, exits_from, block_of};
 
-use alpha_encode::registers::TEMPORARIES;
+use alpha_encode::registers::{ADDRESS, TEMPORARIES};
 use alpha_encode::{AlphaInstr, NOP, OperateOp, operate_by, pal};
 use exception_records::{Block, Point};
 use std::alloc::{AllocError, Global};
 
+/// R0 to R14 are the registers of the VAX.
+pub(crate) const VAX_REGISTERS: u8 = 15;
 /// The call that raises a fault.
 pub(crate) const RAISE: AlphaInstr = AlphaInstr::Pal(pal::RAISE);
 
@@ -44,6 +47,13 @@ pub(crate) fn holder(temp: u8) -> u8
     ensures { result ≡ holder temp }
 {
     TEMPORARIES + temp
+}
+
+/// Whether it is the register of a temporary.
+pub(crate) fn is_temporary(register: u8) -> bool
+    ensures { result ≡ is_temporary register }
+{
+    TEMPORARIES <= register && register < ADDRESS
 }
 
 pub(crate) fn copy(from: u8, to: u8) -> AlphaInstr

@@ -2,7 +2,8 @@
 ghost use Rattle.std.specs.Prelude.{◌≡◌, ◌≤◌, ◌++◌, IfOk, IfSome, MatchOption, OnOk, None, Some, map};
 ghost use Rattle.vt_words.specs.Quad.{IsCount};
 ghost use Rattle.byte_sequences.specs.Instructions.{IsArgument};
-ghost use Rattle.program_codegen.specs.Homes.{AreHomes, stands, settled, is_extended, read_home, reading, may_write, reach};
+ghost use Rattle.program_codegen.specs.Homes.{AreHomes};
+ghost use Rattle.program_codegen.specs.Direct.{stands, settled, is_extended, read_home, reading, may_write, reach};
 ghost use Rattle.program_codegen.specs.Programs.{IsRanged, HasWords};
 ghost use Rattle.program_codegen.specs.Words.{holder, plain, marked, copy, probing, write_by};
 

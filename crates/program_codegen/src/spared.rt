@@ -1,14 +1,14 @@
 // The words at the end of a program, where what is only copied is made where it goes.
 ghost use Rattle.std.specs.Prelude.{◌≡◌, ◌++◌, ◌==◌, ◌∷◌, IfOk, MatchOption, None, Some, length, true};
 ghost use Rattle.alpha_meaning.specs.Loops.{written};
-ghost use Rattle.program_codegen.specs.Homes.{word_reads, goes_by, is_left, is_spare, copies_from, into, leaves_made, spared_word, spared_words, rewrites, makes_home, with_spared, with_waiting, commit_stays, commit_words, end_words};
+ghost use Rattle.program_codegen.specs.Ends.{word_reads, goes_by, is_left, is_spare, copies_from, into, leaves_made, spared_word, spared_words, rewrites, makes_home, with_spared, with_waiting, commit_stays, commit_words, end_words};
 ghost use Rattle.program_codegen.specs.Programs.{IsExit};
 
 use crate::direct::Commit;
 use crate::homes::{Homes, home_at, home_of, stands_in};
-use crate::lines::holder;
+use crate::lines::{holder, is_temporary};
 use crate::waits::{is_choice, second_reads};
-use alpha_encode::registers::{ADDRESS, TEMPORARIES, ZERO};
+use alpha_encode::registers::ZERO;
 use alpha_encode::{AlphaInstr, OperateOp, Second, operate_by};
 use micro_ops::Exit;
 use std::alloc::{AllocError, Global};
@@ -50,7 +50,7 @@ fn is_left(exit: Exit, register: u8) -> bool
     requires { IsExit exit }
     ensures { result ≡ is_left exit register }
 {
-    TEMPORARIES <= register && register < ADDRESS && !goes_by(exit, register)
+    is_temporary(register) && !goes_by(exit, register)
 }
 
 /// Whether what a word makes is left there, whatever that register held.

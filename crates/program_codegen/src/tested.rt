@@ -1,11 +1,12 @@
 // Exits that are chosen by what stands in a register.
 ghost use Rattle.std.specs.Prelude.{◌≡◌, ◌≤◌, ◌++◌, ◌∷◌, IfOk, IfSome, MatchOption, OnOk, None, Some, map};
 ghost use Rattle.program_codegen.specs.Words.{plain};
-ghost use Rattle.program_codegen.specs.Homes.{bit_register, bit_test, code_test, byte_test, test_of, choice_lines, may_test, tested_exit, needed_words, tested_words, next_exit, tested_at, zero_test, is_number, choice_of};
+ghost use Rattle.program_codegen.specs.Ends.{zero_test, is_number, choice_of};
+ghost use Rattle.program_codegen.specs.Direct.{bit_register, bit_test, code_test, byte_test, test_of, choice_lines, may_test, tested_exit, needed_words, tested_words, next_exit, tested_at};
 ghost use Rattle.program_codegen.specs.Programs.{IsExit, IsRanged, RangedToLeave};
 
 use crate::direct::{are_left, are_short_rules, exit_of};
-use crate::homes::{Homes, home_at, home_of, is_direct, made, push_waiting, stands_in};
+use crate::homes::{Homes, VALUES, home_at, home_of, is_direct, made, push_waiting, stands_in};
 use crate::leaving::may_trap;
 use crate::lines::{Line, holder, plain, push_exit, push_words};
 use crate::points::Site;
@@ -20,8 +21,6 @@ use vax_form::Size;
 const CODES: u8 = 4;
 /// How many temporaries have a register.
 const TEMPORARIES_HELD: u8 = 6;
-/// The registers of the temporaries that may be such a number end here.
-const NUMBERS_END: u8 = TEMPORARIES + 3;
 /// The mask of the lowest bit.
 const LOWEST: u64 = 1;
 
@@ -137,7 +136,9 @@ fn zero_test(word: AlphaInstr) -> Option<Test>
 fn is_number(homes: Homes, register: u8, to: u8) -> bool
     ensures { result ≡ is_number homes register to }
 {
-    register < NUMBERS_END && stands_in(home_at(homes, register), register) && register != to
+    register < TEMPORARIES + VALUES
+        && stands_in(home_at(homes, register), register)
+        && register != to
 }
 
 /// The exit, and the branch by which it goes if it chooses: where a comparison with 0 waits for it, it goes by the number.

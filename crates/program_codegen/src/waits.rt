@@ -2,11 +2,8 @@
 ghost use Rattle.std.specs.Prelude.{◌≡◌};
 ghost use Rattle.program_codegen.specs.Homes.{is_choice, second_reads, only_word, copied_to, reads_over, passed};
 
-use alpha_encode::registers::{ADDRESS, TEMPORARIES};
+use crate::lines::{VAX_REGISTERS, is_temporary};
 use alpha_encode::{AlphaInstr, OperateOp, Second};
-
-/// R0 to R14 are registers of the VAX.
-const VAX_REGISTERS: u8 = 15;
 
 /// A conditional move reads what it writes.
 pub(crate) fn is_choice(op: OperateOp) -> bool
@@ -66,7 +63,7 @@ fn copied_to(place: u8, waiting: Option<AlphaInstr>) -> Option<u8>
 fn reads_over(op: OperateOp, first: u8, second: Second, to: u8) -> bool
     ensures { result ≡ reads_over op first second to }
 {
-    first == to && !second_reads(second, to) && !is_choice(op) && TEMPORARIES <= to && to < ADDRESS
+    first == to && !second_reads(second, to) && !is_choice(op) && is_temporary(to)
 }
 
 /// The word that reads the VAX register itself, where the word that waits only copies it to what this one writes over.

@@ -1,7 +1,8 @@
 use Rattle.std.proofs.Common.{◌≡◌, ◌++◌, ◌≤◌, length, List}
 use Rattle.std.specs.Prelude.{drop, option_map}
 use Rattle.program_codegen.specs.declared.lines.Line.{Line}
-use Rattle.program_codegen.specs.Homes.{AreHomes, direct_lines, no_homes}
+use Rattle.program_codegen.specs.Homes.{AreHomes, no_homes}
+use Rattle.program_codegen.specs.Direct.{direct_lines}
 use Rattle.program_codegen.specs.Programs.{AllFitWords, RangedToLeave}
 use Rattle.program_codegen.proofs.direct.direct_lines.Given as goal
 

@@ -1,6 +1,6 @@
 use Rattle.std.proofs.Common.{◌≡◌, ◌≤◌, length}
 use Rattle.std.specs.Prelude.{drop}
-use Rattle.program_codegen.specs.Homes.{exit_behind}
+use Rattle.program_codegen.specs.Ends.{exit_behind}
 use Rattle.program_codegen.specs.Programs.{RangedToLeave}
 use Rattle.program_codegen.proofs.direct.exit_behind.Given as goal
 

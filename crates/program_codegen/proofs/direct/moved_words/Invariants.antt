@@ -1,7 +1,7 @@
 use Rattle.std.proofs.Common.{◌≡◌, ◌++◌, ◌≤◌, length, List}
 use Rattle.std.specs.Prelude.{drop, option_map}
 use Rattle.alpha_encode.specs.declared.instr.AlphaInstr.{AlphaInstr}
-use Rattle.program_codegen.specs.Homes.{moved_from, moved_words}
+use Rattle.program_codegen.specs.Ends.{moved_from, moved_words}
 use Rattle.program_codegen.proofs.direct.moved_words.Given as goal
 
 abbrev pub invariant-loop-i : goal.invariant-loop-i

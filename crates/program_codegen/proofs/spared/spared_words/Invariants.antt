@@ -1,7 +1,7 @@
 use Rattle.std.proofs.Common.{◌≡◌, ◌++◌, ◌≤◌, length, List}
 use Rattle.std.specs.Prelude.{drop, option_map}
 use Rattle.alpha_encode.specs.declared.instr.AlphaInstr.{AlphaInstr}
-use Rattle.program_codegen.specs.Homes.{spared_words}
+use Rattle.program_codegen.specs.Ends.{spared_words}
 use Rattle.program_codegen.proofs.spared.spared_words.Given as goal
 
 abbrev pub invariant-loop-i : goal.invariant-loop-i
