@@ -1,5 +1,5 @@
 #!/usr/bin/env python3
-"""Prints the families of crates/instruction_vectors/data/instructions.txt that come from a simulator's answers. The families
+"""Prints the families of crates/vectors/data/simulator.txt that come from a simulator's answers. The families
 behind them were worked by hand.
 
 usage: instruction_rows.py ANSWERS.jsonl

@@ -1,5 +1,5 @@
 #!/usr/bin/env python3
-"""Writes crates/text_vectors/data/instructions.txt and words.txt: bytes of VAX instructions and Alpha words, each with its text, as the
+"""Writes crates/vectors/data/instruction_texts.txt and word_texts.txt: bytes of VAX instructions and Alpha words, each with its text, as the
 VAX simulator SIMH and the GNU assembler for Alpha have it.
 
 tools/text_rows.py [--check] [--objdump OBJDUMP] [SPELLINGS [SEED]]
@@ -23,7 +23,7 @@ import tempfile
 TOP = pathlib.Path(__file__).resolve().parent.parent
 OPCODES = TOP / "crates/vectors/data/opcodes.txt"
 ROWS = TOP / "crates/alpha_encode/src/instr.rt"
-DATA = TOP / "crates/text_vectors/data"
+DATA = TOP / "crates/vectors/data"
 
 ADDRESS = 0x200
 ROOM = 64
@@ -330,8 +330,8 @@ def main():
     if asked_for.check:
         return 0
     DATA.mkdir(parents=True, exist_ok=True)
-    (DATA / "instructions.txt").write_text(INSTRUCTIONS_HEAD + "\n" + "\n".join(instructions) + "\n")
-    (DATA / "words.txt").write_text(WORDS_HEAD + "\n" + "\n".join(words) + "\n")
+    (DATA / "instruction_texts.txt").write_text(INSTRUCTIONS_HEAD + "\n" + "\n".join(instructions) + "\n")
+    (DATA / "word_texts.txt").write_text(WORDS_HEAD + "\n" + "\n".join(words) + "\n")
     return 0
 
 

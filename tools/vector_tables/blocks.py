@@ -3,7 +3,7 @@ from .common import COMMON, DECLARED, VAX, lemma, list_of, truth
 from .micro import MICRO, PROGRAM, micro
 from .opcodes import CONDITIONS, NAMES, operation_of
 
-CRATE = "block_vectors"
+CRATE = "vectors"
 HEAD = f"""{COMMON}
 use Rattle.std.specs.Prelude.{{map, length, fold, max}}
 use {VAX}.Codes.{{codes}}

@@ -5,7 +5,7 @@ import sys
 from .common import COMMON, DECLARED, VAX, lemma, list_of, number, truth
 from .opcodes import CONDITIONS, NAMES, operation_of
 
-CRATE = "micro_vectors"
+CRATE = "vectors"
 MICRO = "Rattle.micro_ops.specs"
 PROGRAM = f"{MICRO}.declared.program"
 OPERATIONS = ["Move", "Add", "Sub", "Mul", "And", "Or", "Xor", "AndNot", "ShiftLeft", "ShiftRight", "ShiftSigned", "SignExtend",

@@ -4,7 +4,7 @@ import sys
 
 from .common import COMMON, DECLARED, VAX, lemma, list_of, number, some, truth
 
-CRATE = "reading_vectors"
+CRATE = "vectors"
 STD = "Rattle.std.specs.Prelude"
 BYTES_HEAD = """-- so many bytes of a number, the lowest first
 abbrev bytes : (count number : ℕ) → List ℕ

@@ -3,7 +3,7 @@ import re
 
 from .common import COMMON, CRATES, DECLARED, VAX, list_of, truth
 
-CRATE = "instruction_vectors"
+CRATE = "vectors"
 REGISTERS = 15
 # the longest instruction of the tables has fewer bytes
 INSTRUCTION_BYTES = 48
@@ -166,4 +166,4 @@ def instructions_lemma(place, line):
                       "unfolding ended", f"row{place} = refl", ""])
 
 
-TABLES = {"Simulator": (CRATE, "instructions", head(), instructions_lemma)}
+TABLES = {"Simulator": (CRATE, "simulator", head(), instructions_lemma)}

@@ -46,6 +46,6 @@ def words_lemma(place, line):
 
 
 TABLES = {
-    "InstructionTexts": ("text_vectors", "instructions", INSTRUCTIONS_HEAD, instructions_lemma),
-    "WordTexts": ("text_vectors", "words", WORDS_HEAD, words_lemma),
+    "InstructionTexts": ("vectors", "instruction_texts", INSTRUCTIONS_HEAD, instructions_lemma),
+    "WordTexts": ("vectors", "word_texts", WORDS_HEAD, words_lemma),
 }

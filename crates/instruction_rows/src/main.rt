@@ -1,5 +1,5 @@
 //! Runs VAX instructions that are more than one case: the longest strings, stacks round a page, and short programs; and counts the
-//! words of micro programs. The answers of a simulator stand in the crate instruction_vectors.
+//! words of micro programs. The answers of a simulator stand in the crate vectors.
 //!
 //! `case` reads a line, `memory` answers references, and `ending` decodes. `stacks` has instructions that push and pop at the ends of
 //! a page, worked from the manual, `longest` strings of 65,535 bytes, `programs` short programs that go one reference at a time, by

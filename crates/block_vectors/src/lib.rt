@@ -1,6 +1,0 @@
-//! What was worked out by hand of the blocks of micro programs, as lemmas: each table of data/ is a file of proofs/, which
-//! `tools/vectors.py` makes of it.
-#![tactic(auto)]
-
-/// Does nothing: the tables are proved with this crate.
-pub fn outside_answers() {}

@@ -1,2 +1,0 @@
-mod Simulator
-mod LongForms

@@ -1,2 +1,0 @@
-mod InstructionTexts
-mod WordTexts
