@@ -1,5 +1,5 @@
 // A case: an instruction with the state and memory before it, and the state behind it.
-use crate::memory::Memory;
+use crate::instructions::memory::Memory;
 use anyhow::{Context, Result, ensure};
 use row_tally::{five_fields, five_fields_and_rest, longword, pieces};
 use std::alloc::Global;

@@ -1,6 +1,6 @@
 // The longest strings, whose bytes are all 0.
-use crate::case::Case;
-use crate::ending::{instr_of, outcome, writable_pages};
+use crate::instructions::case::Case;
+use crate::instructions::ending::{instr_of, outcome, writable_pages};
 use anyhow::{Context, Result};
 use row_tally::{Tally, longword};
 use std::alloc::Global;

@@ -1,6 +1,6 @@
 // Instructions that push or pop, with the stack at each longword round the begin and the end of a writable page.
-use crate::ending::outcome;
-use crate::pages::pages_with;
+use crate::instructions::ending::outcome;
+use crate::instructions::pages::pages_with;
 use anyhow::{Result, bail};
 use row_tally::Tally;
 use std::alloc::{AllocError, Global};

@@ -1,7 +1,7 @@
 // A call in a page of code, with random operands, and the pages around it.
 ghost use Rattle.std.specs.Prelude.{◌≡◌, ◌<◌, IfOk, false, length, true};
 
-use crate::random::Random;
+use crate::calls::random::Random;
 use anyhow::Result;
 use std::alloc::Global;
 use vax_form::{PageRange, Pages, SP};

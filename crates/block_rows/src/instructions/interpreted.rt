@@ -1,5 +1,5 @@
 // An instruction one reference at a time.
-use crate::memory::Memory;
+use crate::instructions::memory::Memory;
 use anyhow::Result;
 use tie_interpreter::{Tie, TieStep};
 use tie_strings::LongTie;

@@ -1,5 +1,5 @@
 // A memory of quadwords, what it begins with, and what was done to it.
-use crate::random::Random;
+use crate::calls::random::Random;
 use std::alloc::{AllocError, Global};
 
 /// A reference to a quadword, with what the quadword has behind it.

@@ -2,8 +2,8 @@
 ghost use Rattle.std.specs.Prelude.{All};
 ghost use Rattle.alpha_encode.specs.Words.{IsEncodable};
 
-use crate::memory::{Memory, field, with_field};
-use crate::random::Random;
+use crate::calls::memory::{Memory, field, with_field};
+use crate::calls::random::Random;
 use alpha_encode::{decode, encode};
 use alpha_machine::{AlphaStep, Cpu, finish, step};
 use alpha_meaning::{AlphaAccess, AlphaKind};

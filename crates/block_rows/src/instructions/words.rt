@@ -2,8 +2,8 @@
 ghost use Rattle.std.specs.Prelude.{IfOk};
 ghost use Rattle.vax_form.specs.Grammar.{IsSpelled};
 
-use crate::ending::instr_of;
-use crate::memory::Memory;
+use crate::instructions::ending::instr_of;
+use crate::instructions::memory::Memory;
 use anyhow::{Context, Result};
 use micro_lower::lower;
 use micro_ops::{program_words, sources_of};

@@ -2,7 +2,7 @@
 ghost use Rattle.std.specs.Prelude.{IfOk};
 ghost use Rattle.vax_form.specs.Grammar.{IsSpelled};
 
-use crate::memory::Memory;
+use crate::instructions::memory::Memory;
 use anyhow::{Result, bail};
 use std::alloc::{AllocError, Global};
 use vax_decode::{Decoded, decode_at};

@@ -1,13 +1,22 @@
 // Random calls: their blocks beside what they mean.
+//
+// `code` has a page of code with a call, and the pages around it; `vax` makes the references of what it means, and `alpha` runs its
+// block, over a `memory` each, with stores that fail.
+
+mod alpha;
+mod code;
+mod memory;
+mod random;
+mod vax;
+
 ghost use Rattle.std.specs.Prelude.{IfOk, IfSome, false};
 ghost use Rattle.block_law.specs.Blocks.{IsBlockOf};
 ghost use Rattle.program_codegen.specs.CallPromises.{IsFixedCall};
 
-use crate::alpha::{End, Work, shown, start, words_of};
-use crate::code::{CALL_AT, pages};
-use crate::memory::Memory;
-use crate::random::Random;
-use crate::vax;
+use crate::calls::alpha::{End, Work, shown, start, words_of};
+use crate::calls::code::{CALL_AT, pages};
+use crate::calls::memory::Memory;
+use crate::calls::random::Random;
 use alpha_machine::Cpu;
 use anyhow::{Result, bail};
 use exception_records::{Block, Rules};

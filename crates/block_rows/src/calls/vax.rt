@@ -1,5 +1,5 @@
 // What a call means.
-use crate::memory::{Memory, field, with_field};
+use crate::calls::memory::{Memory, field, with_field};
 use anyhow::{Result, bail};
 use std::alloc::Global;
 use vax_form::{Instr, Outcome, Pages, RefKind, VaxState};

@@ -1,7 +1,7 @@
 // Short programs, one reference at a time, worked by hand.
-use crate::interpreted::Interpreted;
-use crate::memory::Memory;
-use crate::pages::{CODE, DATA, pages_with};
+use crate::instructions::interpreted::Interpreted;
+use crate::instructions::memory::Memory;
+use crate::instructions::pages::{CODE, DATA, pages_with};
 use anyhow::{Result, bail};
 use row_tally::Tally;
 use std::alloc::{AllocError, Global};
