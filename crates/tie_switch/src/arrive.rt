@@ -84,7 +84,7 @@ impl Mode {
     fn begin(&mut self, setting: Setting<'_>, thread: u8, state: &VaxState)
         ensures { IsMode setting.entry.pages.now thread state.now self.new (model.Interprets state.now []) }
     {
-        *self = interprets(setting, thread, state);
+        *self = Mode::Interprets(Interpreted::begin(state, setting.pages, thread), None);
     }
 
     // It interprets what the thread does at a state, which is written in place where it interpreted before.

@@ -152,7 +152,7 @@ impl Interpreted {
     ghost use Rattle.tie_switch.specs.Interpreted.{handled_answer, step_of, step_with, Stands, IfWants};
 
     /// Begins what the thread does at a state.
-    #[inline(never)]
+    #[inline(always)]
     pub fn begin(state: &VaxState, _pages: &Pages, thread: u8) -> Interpreted
         ensures { Stands _pages.now thread result state.now [] }
     {
@@ -160,6 +160,14 @@ impl Interpreted {
             Pending::Nothing => Interpreted::Plays(Played::begin(state, thread)),
             Pending::Deliver(_) | Pending::Resume => Interpreted::Awaits(PendingTie::begin(state)),
         }
+    }
+
+    /// Begins what the thread does at a state, over whatever it was.
+    #[inline(never)]
+    pub(crate) fn begin_over(&mut self, state: &VaxState, pages: &Pages, thread: u8)
+        ensures { Stands pages.now thread self.new state.now [] }
+    {
+        *self = Interpreted::begin(state, pages, thread);
     }
 
     /// Begins what the thread does at a state, in place.
@@ -171,11 +179,11 @@ impl Interpreted {
             Pending::Nothing => match self {
                 Interpreted::Plays(played) => played.begin_anew(state, thread),
                 Interpreted::Long(_) | Interpreted::Awaits(_) => {
-                    *self = Interpreted::begin(state, pages, thread);
+                    self.begin_over(state, pages, thread);
                 }
             },
             Pending::Deliver(_) | Pending::Resume => {
-                *self = Interpreted::begin(state, pages, thread);
+                self.begin_over(state, pages, thread);
             }
         }
     }

@@ -331,7 +331,8 @@ impl Processor {
         match turn {
             Turn::Went => {
                 if made < most {
-                    (made + 1, self.turn_by(setting, prepared, known, memory))
+                    self.take_turn(setting, known, memory);
+                    (made + 1, self.turn_made())
                 } else {
                     (made, turn)
                 }

@@ -90,6 +90,7 @@ pub struct Played {
 
 impl Played {
     /// Begins what stands at the PC.
+    #[inline(always)]
     pub(crate) fn begin(state: &VaxState, thread: u8) -> Played
         ensures before { result.before ≡ state.now }
         ensures thread { result.thread ≡ thread }

@@ -214,9 +214,9 @@ impl Processor {
         self.make_step(setting, known, memory, waits)
     }
 
-    // Takes its turn, if it has not ended.
+    /// Takes its turn, if it has not ended.
     #[inline(always)]
-    fn take_turn<M: Memory>(
+    pub(crate) fn take_turn<M: Memory>(
         &mut self,
         setting: Setting<'_>,
         known: &mut [Option<Instr>],
