@@ -4,7 +4,7 @@
 //!
 //! `body` is what comes behind the operands of an instruction without a string, `moving`, `comparing` and `scanning` are
 //! strings under way, `byte` has the next byte of one, `string` goes through any of them, `tie` is the whole
-//! instruction, `played` goes through one without strings from its begin with the replies so far, and `told` has what a
+//! instruction, `played` goes through one without strings from its begin with the replies so far, and `wanting` has what a
 //! RET wants by their number.
 #![tactic(auto)]
 
@@ -17,9 +17,10 @@ mod played;
 mod scanning;
 mod string;
 mod tie;
-mod told;
+mod wanting;
 
 pub use body::Plain;
 pub use played::{plain_of, played_long};
 pub use tie::LongTie;
 pub use tie_operands::TieStep;
+pub use wanting::told;

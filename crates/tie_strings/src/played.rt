@@ -7,7 +7,6 @@ ghost use Rattle.vax_long.specs.Instructions.{long_script};
 ghost use Rattle.vax_meaning.specs.Play.{Plays, Uses};
 
 use crate::body::Plain;
-use crate::told::told;
 use tie_operands::all_operands;
 use vax_form::{End, Instr, LongOperation, Operation, Stop};
 use vax_meaning::Cursor;
@@ -59,21 +58,12 @@ impl Plain {
 }
 
 /// Goes through a long instruction without strings from its begin with the replies to its references so far: from the state
-/// before it to the one behind it. Where their number tells what it wants, it is not gone through.
+/// before it to the one behind it. `told` says what some want without that.
 pub fn played_long(cursor: &mut Cursor, operation: Plain, instr: &Instr) -> Result<End, Stop>
     ensures answers { step_by cursor.old.state result cursor.new.state
         ≡ step_of (outcome cursor.old.state (answer cursor.old.pages.now (instruction_tree cursor.old.pages.now (long_script (long_of operation) instr.now) cursor.old.state) cursor.old.replies.now)) }
     ensures faults { FailsByFault (answer cursor.old.pages.now (instruction_tree cursor.old.pages.now (long_script (long_of operation) instr.now) cursor.old.state) cursor.old.replies.now) }
     ensures few { IfWant (step_by cursor.old.state result cursor.new.state) (length cursor.old.replies.now < 60) }
 {
-    match told(
-        &cursor.state,
-        operation,
-        instr,
-        cursor.pages,
-        cursor.replies,
-    ) {
-        Some(reference) => Err(Stop::Wants(reference)),
-        None => operation.run_whole(cursor, instr),
-    }
+    operation.run_whole(cursor, instr)
 }

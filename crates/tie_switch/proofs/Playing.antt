@@ -5,9 +5,9 @@ use Rattle.std.specs.Prelude.{IfSome}
 use Rattle.std.proofs.lemmas.List.{append-nil, length-append}
 use Rattle.vax_form.specs.Grammar.{Found, instruction, reserved_instruction, reserved_mode, past}
 use Rattle.vax_form.specs.GrammarFound.{found}
-use Rattle.vax_form.specs.Operation.{operation_at}
+use Rattle.vax_form.specs.Operation.{control_opcodes, operation_at}
 use Rattle.vax_form.specs.Row.{is_long_operation}
-use Rattle.vax_form.specs.Tree.{Answer, answer, instruction_tree, outcome}
+use Rattle.vax_form.specs.Tree.{Answer, Wants, answer, instruction_tree, outcome}
 use Rattle.vax_form.specs.declared.instr.Instr.{Instr}
 use Rattle.vax_form.specs.declared.operation.LongOperation.{LongOperation}
 use Rattle.vax_form.specs.declared.operation.LongOperation.TheVariants as long
@@ -15,6 +15,7 @@ use Rattle.vax_form.specs.declared.operation.Operation.{Operation}
 use Rattle.vax_form.specs.declared.operation.Operation.TheVariants as operations
 use Rattle.vax_form.specs.declared.pages.Pages.{Pages}
 use Rattle.vax_form.specs.declared.state.Pending.TheVariants.{Nothing}
+use Rattle.vax_form.specs.declared.state.Reference.{Reference}
 use Rattle.vax_form.specs.declared.state.VaxState.{VaxState}
 use Rattle.vax_long.specs.Instructions.{either_script, long_at, long_operation, long_script, script_found}
 use Rattle.vax_long.specs.Pending.{moment_at}
@@ -31,6 +32,7 @@ use Rattle.tie_strings.specs.declared.body.Plain.TheVariants as plains
 use Rattle.tie_switch.specs.Interpreted.{ComesTo, HasStrings, HasStringsBy, IfWants, IsBefore, IsPlayed, IsWant, Stands, StepsBy, handled_answer, kept_of, step_of}
 use Rattle.tie_switch.specs.declared.interpreted.Interpreted.{Interpreted}
 use Rattle.tie_switch.specs.declared.interpreted.Step.{Step}
+use Rattle.tie_switch.specs.declared.interpreted.Step.TheVariants as steps
 use Rattle.tie_switch.specs.declared.played.Played.{Played}
 use Rattle.tie_switch.proofs.Found.{short_is}
 use Rattle.tie_switch.proofs.Handled.{if_wants, moment_step, wants_map}
@@ -98,6 +100,26 @@ some_plain (Some other) operation plain is some strings =
 
 pub strings_there : (instr : Instr) (operation : LongOperation) → long_at instr.opcode ≡ Some operation → plain_of operation ≡ None → HasStrings (instruction instr)
 strings_there instr operation is none = subst HasStringsBy (sym is) none
+
+-- ---- what a RET wants
+return_there : long_at 4 ≡ Some long.Return
+unfolding operation_at control_opcodes long_operation
+return_there = refl
+
+pub return_steps : (pages : Pages) (thread : ℕ) (before : VaxState) (instr : Instr) (replies : List ℕ) (told : Option Reference) → instr.opcode ≡ 4
+    → IfSome told (λ reference. answer pages (instruction_tree pages (long_script (long_of plains.Return) instr) before) replies ≡ Wants reference)
+    → IfSome told (λ reference. length replies < 34) → IfSome told (λ reference. StepsBy pages thread before (instruction instr) replies (steps.Wants reference))
+return_steps pages thread before instr replies None opcode wanted few = tt
+return_steps pages thread before instr replies (Some reference) opcode wanted few =
+    let is : long_at instr.opcode ≡ Some long.Return = ap long_at opcode ∙ return_there in
+    let tree : instruction_tree pages (script_found (instruction instr) thread) before ≡ instruction_tree pages (long_script (long_of plains.Return) instr) before =
+    ap (λ o. instruction_tree pages (either_script o instr thread) before) is in
+    let short : length replies < 34 = few in
+    record {
+      answers = sym (ap (λ (a : Answer). step_of (handled_answer before a)) (ap (λ t. answer pages t replies) tree ∙ wanted));
+      few = omega (arith, short);
+      whole = some_plain (long_at instr.opcode) long.Return plains.Return is refl;
+    }
 
 -- ---- what it comes to
 pub short_comes : (pages : Pages) (thread : ℕ) (before : VaxState) (there : Found) (replies given : List ℕ) (step : TieStep) → IsShort there → given ≡ replies

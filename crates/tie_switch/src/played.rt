@@ -3,7 +3,7 @@ ghost use Rattle.std.specs.Prelude.{◌≡◌, ◌<◌, ◌++◌, ◌∷◌, ℕ
 ghost use Rattle.tie_operands.specs.Replies.{list_of};
 ghost use Rattle.tie_switch.specs.Interpreted.{HasStrings, IfWants, IsPlayed, StepsBy, kept_of, step_of, step_with};
 ghost use Rattle.tie_switch.specs.Known.{AreFound};
-ghost use Rattle.tie_switch.specs.declared.interpreted.Step.TheVariants.{Leaves};
+ghost use Rattle.tie_switch.specs.declared.interpreted.Step.TheVariants.{Leaves, Wants};
 ghost use Rattle.tie_switch.specs.declared.place.Last.TheVariants.{Finish};
 ghost use Rattle.vax_form.specs.Grammar.{instruction};
 ghost use Rattle.vax_form.specs.GrammarFound.{found};
@@ -15,13 +15,18 @@ ghost use Rattle.vax_long.specs.Pending.{moment_at};
 use crate::interpreted::Came;
 use crate::known::{decoded_at, place_of};
 use tie_interpreter::{played_instr, played_short};
-use tie_strings::{plain_of, played_long};
+use tie_strings::{Plain, plain_of, played_long, told};
 use vax_decode::Decoded;
-use vax_form::{End, Instr, LongOperation, Operand, Operation, Pages, VaxState, operation_of};
+use vax_form::{
+    End, Instr, LongOperation, Operand, Operation, Pages, Reference, VaxState, operation_of,
+};
 use vax_meaning::Cursor;
 
 /// So many operands are looked at before an instruction is gone through at once: few have more.
 const LOOKED_AT: usize = 3;
+
+/// The opcode of RET.
+const RETURN: u8 = 0x04;
 
 /// An instruction without strings makes so many references at most.
 const REPLIES_OF_INSTRUCTION: usize = 60;
@@ -237,6 +242,30 @@ impl Played {
         self.go_through_new(pages, known, replies, after)
     }
 
+    // What a RET wants, where the number of its replies tells it.
+    #[inline(always)]
+    fn return_wanted(&self, instr: &Instr, pages: &Pages, replies: &[u64]) -> Option<Reference>
+        requires { instr.now.opcode ≡ 4 }
+        ensures { IfSome result (λ reference. StepsBy pages.now self.now.thread self.now.before (instruction instr.now) replies.now (Wants reference)) }
+    {
+        told(&self.before, Plain::Return, instr, pages, replies)
+    }
+
+    // The same of what stands at the PC, where it is known.
+    #[inline(always)]
+    fn wanted(&self, pages: &Pages, known: &[Option<Instr>], replies: &[u64]) -> Option<Reference>
+        requires known { AreFound pages.now known.now }
+        ensures { IfSome result (λ reference. StepsBy pages.now self.now.thread self.now.before (found pages.now self.now.before.pc) replies.now (Wants reference)) }
+    {
+        let pc = self.before.pc;
+        if let Some(Some(instr)) = known.get(place_of(pc)) {
+            if instr.at == pc && instr.opcode == RETURN {
+                return self.return_wanted(instr, pages, replies);
+            }
+        }
+        None
+    }
+
     /// The instruction, where it is known, has no reply, and no operand in memory.
     #[inline(always)]
     pub(crate) fn at_once<'a>(
@@ -277,6 +306,10 @@ impl Played {
         ensures strings { IfNone result (HasStrings (found pages.now self.old.before.pc)) }
     {
         self.take(reply);
-        self.go_through_known(pages, known, self.replies(), after)
+        let replies = self.replies();
+        match self.wanted(pages, known, replies) {
+            Some(reference) => Some(Came::Wants(reference)),
+            None => self.go_through_known(pages, known, replies, after),
+        }
     }
 }

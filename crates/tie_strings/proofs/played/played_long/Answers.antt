@@ -4,12 +4,12 @@ use Rattle.tie_operands.proofs.Played.{played}
 use Rattle.tie_strings.specs.Bodies.{long_of}
 use Rattle.tie_strings.proofs.played.played_long.Goals as goal
 
-pub returns-in-None-clause-answers : goal.returns-in-None-clause-answers
-returns-in-None-clause-answers c =
+pub returns-clause-answers : goal.returns-clause-answers
+returns-clause-answers c =
     let run = c.run_whole in
     (played 60 (long_script (long_of c.args.operation) c.args.instr.now) c.args.cursor.now run.new.cursor run.result run.ensures.plays run.ensures.few).answers
 
-pub returns-in-None-clause-faults : goal.returns-in-None-clause-faults
-returns-in-None-clause-faults c =
+pub returns-clause-faults : goal.returns-clause-faults
+returns-clause-faults c =
     let run = c.run_whole in
     (played 60 (long_script (long_of c.args.operation) c.args.instr.now) c.args.cursor.now run.new.cursor run.result run.ensures.plays run.ensures.few).faults

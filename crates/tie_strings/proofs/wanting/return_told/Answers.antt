@@ -1,6 +1,6 @@
 -- What its body wants.
 use Rattle.tie_strings.proofs.Returns.{return_told}
-use Rattle.tie_strings.proofs.told.return_told.Goals as goal
+use Rattle.tie_strings.proofs.wanting.return_told.Goals as goal
 
 pub returns-clause-wanted : goal.returns-clause-wanted
 returns-clause-wanted c =

@@ -39,7 +39,7 @@ fn return_told(
 
 /// What an instruction wants behind the references that have replies, where their number tells it.
 #[inline(always)]
-pub(crate) fn told(
+pub fn told(
     before: &VaxState,
     operation: Plain,
     instr: &Instr,
