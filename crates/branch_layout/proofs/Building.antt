@@ -1,8 +1,9 @@
 -- One block more of those that are laid out.
-use Rattle.std.proofs.Common.{◌≡◌, ℕ, zero, suc, ◌+◌, ◌<◌, ◌≤◌, ◌++◌, sym, ◌∙◌, ap, subst, arith, append_assoc, zero-add, List, [], ◌∷◌, length, length-append, map, take, drop, get_or, Bool, Option, Some, None}
+use Rattle.std.proofs.Common.{◌≡◌, ℕ, zero, suc, ◌+◌, ◌<◌, ◌≤◌, ◌++◌, refl, sym, ◌∙◌, ap, subst, arith, append_assoc, zero-add, List, [], ◌∷◌, length, length-append, map, take, drop, get_or, Bool, Option, Some, None, inl, inr}
 use Rattle.std.specs.Prelude.{slice_get, IfSome}
 use Rattle.std.proofs.lemmas.List.{length-map}
 use Rattle.std.proofs.lemmas.List.Sums.{sum_by_more}
+use Rattle.std.proofs.Math.Nat.{eq-or-lt_of_le}
 use Rattle.std.proofs.lemmas.Option.{slice_get_within, get_or_from_slice_get}
 use Rattle.alpha_encode.specs.Words.{word_of}
 use Rattle.alpha_encode.specs.declared.instr.AlphaInstr.{AlphaInstr}
@@ -10,9 +11,10 @@ use Rattle.address_map.specs.Pairs.{Pair}
 use Rattle.exception_records.specs.Blocks.{BlockValue}
 use Rattle.exception_records.specs.Points.{Entry}
 use Rattle.branch_layout.specs.Ends.{end_of, placed_size}
-use Rattle.branch_layout.specs.Layouts.{AddressesRise, AreBlocks, IsPlaced, Placed, Sized, is_small, laid_points, laid_words, next_address, placed_sizes, placed_words, places, shifted, whole_sizes, words_of}
+use Rattle.branch_layout.specs.Layouts.{AddressesRise, AreBlocks, AreEnds, IsPlaced, Placed, Sized, is_small, laid_points, laid_words, next_address, placed_sizes, placed_words, places, shifted, whole_sizes, words_of}
 use Rattle.branch_layout.specs.declared.ends.End.{End}
 use Rattle.branch_layout.proofs.Ending.{end_is}
+use Rattle.branch_layout.proofs.Filling.{some_same}
 use Rattle.branch_layout.proofs.Laid.{AreMade, made}
 use Rattle.branch_layout.proofs.Places.{size}
 use Rattle.branch_layout.proofs.Sizes.{end_before, end_facts, size_facts, sized_at}
@@ -33,6 +35,31 @@ start_within small mapped next block (Some end) e = (end_facts small mapped next
 
 pub size_within : (small : Bool) (mapped : List Pair) (next : Option ℕ) (block : Placed) → IsPlaced block → placed_size (end_of small mapped next block.1) block.1 ≤ length block.1.words
 size_within small mapped next block own = (size_facts small mapped next own.0 block.0 block.1 own.1).count
+
+-- one end more
+pushed_front : {X : Type 0} (xs : List X) (x : X) (k : ℕ) → k < length xs → slice_get (xs ++ x ∷ []) k ≡ slice_get xs k
+pushed_front [] x k lt = absurd (omega arith)
+pushed_front (y ∷ xs) x zero lt = refl
+pushed_front (y ∷ xs) x (suc k) lt = pushed_front xs x k (omega arith)
+
+pushed_last : {X : Type 0} (xs : List X) (x : X) → slice_get (xs ++ x ∷ []) (length xs) ≡ Some x
+pushed_last [] x = refl
+pushed_last (y ∷ xs) x = pushed_last xs x
+
+pub ends_next : (small : Bool) (mapped : List Pair) (blocks : List Placed) (i : ℕ) (b : Placed) (ends ends' : List (Option End)) (end : Option End) → slice_get blocks i ≡ Some b → ends' ≡ ends ++ end ∷ []
+    → end ≡ end_of small mapped (next_address (drop (i + 1) blocks)) b.1 → AreEnds small mapped blocks i ends → AreEnds small mapped blocks (i + 1) ends'
+ends_next small mapped blocks i b ends ends' end at is ends_so before = subst (AreEnds small mapped blocks (i + 1)) (sym is) (record {
+      counted = length-append ends (end ∷ []) ∙ ap (λ n. n + 1) before.counted;
+      each = λ k c lt e. elim (eq-or-lt_of_le (within k lt)) [ inl same ↦ last k c same e | inr less ↦ pushed_front ends end k (rw before.counted less) ∙ before.each k c less e ];
+    })
+  where
+    within : (k : ℕ) → k < i + 1 → k ≤ i
+    within k lt = omega arith
+    last : (k : ℕ) (c : Placed) → k ≡ i → slice_get blocks k ≡ Some c → slice_get (ends ++ end ∷ []) k ≡ Some (end_of small mapped (next_address (drop (k + 1) blocks)) c.1)
+    last k c same e =
+        let is_b : b ≡ c = some_same (sym at ∙ ap (slice_get blocks) (sym same) ∙ e) in
+        ap (slice_get (ends ++ end ∷ [])) (same ∙ sym before.counted) ∙ pushed_last ends end
+        ∙ ap (λ (o : Option End). Some o) (ends_so ∙ ap (λ (d : Placed). end_of small mapped (next_address (drop (i + 1) blocks)) d.1) is_b ∙ ap (λ n. end_of small mapped (next_address (drop (n + 1) blocks)) c.1) (sym same))
 
 module _ (small : Bool) (mapped : List Pair) (blocks : List Placed) (i : ℕ) (b : Placed) (at : slice_get blocks i ≡ Some b) where
   abbrev its_size : ℕ

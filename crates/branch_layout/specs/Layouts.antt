@@ -70,6 +70,12 @@ abbrev pub placed_sizes : (small : Bool) → (mapped : List Pair) → List Place
 placed_sizes small mapped [] = []
 placed_sizes small mapped (block ∷ blocks) = (block.0, placed_size (end_of small mapped (next_address blocks) block.1) block.1) ∷ placed_sizes small mapped blocks
 
+-- the ends of the first so many blocks
+pub record AreEnds (small : Bool) (mapped : List Pair) (blocks : List Placed) (many : ℕ) (ends : List (Option End)) : Type 0 where
+  pub counted : length ends ≡ many
+  pub each : (place : ℕ) (block : Placed) → place < many → slice_get blocks place ≡ Some block
+      → slice_get ends place ≡ Some (end_of small mapped (next_address (drop (place + 1) blocks)) block.1)
+
 -- points whose words count from that one on
 abbrev pub shifted : (first : ℕ) → List Entry → List Entry
 shifted first points = map (λ entry. (first + entry.0, entry.1)) points

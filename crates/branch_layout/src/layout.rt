@@ -6,7 +6,7 @@ ghost use Rattle.block_law.specs.Tidy.{block_words};
 ghost use Rattle.alpha_meaning.specs.Pieces.{most_words};
 ghost use Rattle.block_law.specs.Translations.{Code};
 ghost use Rattle.branch_layout.specs.Ends.{end_of, ended_words};
-ghost use Rattle.branch_layout.specs.Layouts.{AddressesRise, AreBlocks, IsLayout, IsPlaced, filled_words, is_small, layout, layout_by, next_address, Placed, placed_sizes, placed_words, places, shifted, whole_sizes, words_of};
+ghost use Rattle.branch_layout.specs.Layouts.{AddressesRise, AreBlocks, AreEnds, IsLayout, IsPlaced, filled_words, is_small, layout, layout_by, next_address, Placed, placed_sizes, placed_words, places, shifted, whole_sizes, words_of};
 
 use crate::ends::{End, Form, end_of, placed_size};
 use crate::exits::{EXIT_WORDS, REACH, branch_to, exit_code};
@@ -57,25 +57,28 @@ fn end_at(small: bool, mapped: &AddressMap, blocks: &[(u32, Block)], place: usiz
     end_of(small, mapped, next, &blocks[place].1)
 }
 
-/// Each address with the first word of its block.
+/// Each address with the first word of its block, and how each block ends.
 fn places(
     alloc: Global,
     small: bool,
     mapped: &AddressMap,
     blocks: &[(u32, Block)],
-) -> Result<Vec<(u32, u32)>, AllocError>
+) -> Result<(Vec<(u32, u32)>, Vec<Option<End>>), AllocError>
     requires few { length blocks.now ≤ 32768 }
     requires blocks { AreBlocks blocks.now }
-    ensures { IfOk result (λ pairs. pairs.items ≡ places 0 (placed_sizes small mapped.now blocks.now)) }
+    ensures places { IfOk result (λ made. made.0.items ≡ places 0 (placed_sizes small mapped.now blocks.now)) }
+    ensures ends { IfOk result (λ made. AreEnds small mapped.now blocks.now (length blocks.now) made.1.items) }
 {
     let mut places = Vec::new(alloc);
+    let mut ends = Vec::new(alloc);
     let mut first = 0;
     for place in 0..blocks.len() {
         places.push((blocks[place].0, first))?;
         let end = end_at(small, mapped, blocks, place);
+        ends.push(end)?;
         first += placed_size(end, &blocks[place].1);
     }
-    Ok(places)
+    Ok((places, ends))
 }
 
 /// Writes the words of an exit where the block keeps the room for them.
@@ -86,40 +89,41 @@ fn fill(words: &mut [AlphaInstr], start: usize, code: &[AlphaInstr; EXIT_WORDS])
     words[start..start + EXIT_WORDS].copy_from_slice(code);
 }
 
-/// The words of a block that begins at that word of the code, with those of its exits filled in.
-fn filled(
-    alloc: Global,
+/// Puts there the words of a block that begins at that word of the code, with those of its exits filled in.
+fn filled_words(
+    words: &mut Vec<AlphaInstr>,
     map: &AddressMap,
     first: u32,
     block: &Block,
-) -> Result<Vec<AlphaInstr>, AllocError>
+) -> Result<(), AllocError>
     requires within { first + length block.now.words ≤ most_words }
     requires targets { (address : ℕ) → IfSome (word_at map.now address) (λ target. target ≤ most_words) }
     requires block { (address : ℕ) × IsPlaced (address, block.now) }
-    ensures { IfOk result (λ words. words.items ≡ filled_words map.now first block.now) }
+    ensures { OnOk result (words.new.items ≡ filled_words map.now first block.now) }
 {
-    let mut words = block.words.clone()?;
+    words.clear();
+    words.extend_from_slice(&block.words)?;
     for (word, address) in &block.exits {
         let code = exit_code(map, first + *word, *address);
-        fill(&mut words, *word as usize, &code);
+        fill(words, *word as usize, &code);
     }
-    Ok(words)
+    Ok(())
 }
 
-/// The words of a block that begins at that word of the code, and ends so.
-fn ended(
-    alloc: Global,
+/// Puts there the words of a block that begins at that word of the code, and ends so.
+fn ended_words(
+    words: &mut Vec<AlphaInstr>,
     map: &AddressMap,
     first: u32,
     block: &Block,
     end: End,
-) -> Result<Vec<AlphaInstr>, AllocError>
+) -> Result<(), AllocError>
     requires within { first + length block.now.words ≤ most_words }
     requires start { end.start < length block.now.words }
     requires targets { (address : ℕ) → IfSome (word_at map.now address) (λ target. target ≤ most_words) }
-    ensures { IfOk result (λ words. words.items ≡ ended_words map.now first block.now end) }
+    ensures { OnOk result (words.new.items ≡ ended_words map.now first block.now end) }
 {
-    let mut words = Vec::new(alloc);
+    words.clear();
     words.extend_from_slice(&block.words[..end.start as usize])?;
     let mut word = first + end.start;
     if let Some(fork) = end.fork {
@@ -131,26 +135,26 @@ fn ended(
         Form::Near => words.push(branch_to(map, word, BranchOp::Br, ZERO, end.address))?,
         Form::Whole => words.extend_from_slice(&exit_code(map, word, end.address))?,
     }
-    Ok(words)
+    Ok(())
 }
 
-/// The words of a block in its place, by its end, or with three for each exit.
-fn placed(
-    alloc: Global,
+/// Puts there the words of a block in its place, by its end, or with three for each exit.
+fn placed_words(
+    words: &mut Vec<AlphaInstr>,
     map: &AddressMap,
     first: u32,
     block: &Block,
     end: Option<End>,
-) -> Result<Vec<AlphaInstr>, AllocError>
+) -> Result<(), AllocError>
     requires within { first + length block.now.words ≤ most_words }
     requires targets { (address : ℕ) → IfSome (word_at map.now address) (λ target. target ≤ most_words) }
     requires block { (address : ℕ) × IsPlaced (address, block.now) }
     requires start { IfSome end (λ end. end.start < length block.now.words) }
-    ensures { IfOk result (λ words. words.items ≡ placed_words map.now first end block.now) }
+    ensures { OnOk result (words.new.items ≡ placed_words map.now first end block.now) }
 {
     match end {
-        Some(end) => ended(alloc, map, first, block, end),
-        None => filled(alloc, map, first, block),
+        Some(end) => ended_words(words, map, first, block, end),
+        None => filled_words(words, map, first, block),
     }
 }
 
@@ -178,13 +182,14 @@ fn append_points(
     Ok(())
 }
 
-/// The words and the points of the blocks, for the map of their places.
+/// The words and the points of the blocks, for the map of their places, by their ends.
 fn code(
     alloc: Global,
     small: bool,
     mapped: &AddressMap,
     map: &AddressMap,
     blocks: &[(u32, Block)],
+    ends: &[Option<End>],
 ) -> Result<(Vec<u32>, Vec<(u32, Point)>), AllocError>
     requires few { length blocks.now ≤ 32768 }
     requires rising { AddressesRise blocks.now }
@@ -192,15 +197,17 @@ fn code(
     requires small { small ≡ is_small (words_of (whole_sizes blocks.now)) }
     requires mapped { mapped.now ≡ places 0 (whole_sizes blocks.now) }
     requires places { map.now ≡ places 0 (placed_sizes small mapped.now blocks.now) }
+    requires ends { AreEnds small mapped.now blocks.now (length blocks.now) ends.now }
     ensures { IfOk result (λ code. record { words = code.0.items; map = map.now; points = code.1.items } ≡ layout_by small mapped.now blocks.now) }
 {
     let mut words = Vec::new(alloc);
     let mut points = Vec::new(alloc);
+    let mut instrs = Vec::new(alloc);
     for place in 0..blocks.len() {
         let block = &blocks[place].1;
         let first = words.len() as u32;
-        let end = end_at(small, mapped, blocks, place);
-        let instrs = placed(alloc, map, first, block, end)?;
+        let end = ends[place];
+        placed_words(&mut instrs, map, first, block, end)?;
         append_words(&mut words, instrs.as_slice())?;
         append_points(&mut points, first, block.points.as_slice())?;
     }
@@ -225,10 +232,10 @@ pub fn lay_out(
     let Ok(mapped) = build(alloc, whole.as_slice()) else {
         return Err(WantOfMemory);
     };
-    let places = places(alloc, small, &mapped, blocks)?;
+    let (places, ends) = places(alloc, small, &mapped, blocks)?;
     let Ok(map) = build(alloc, places.as_slice()) else {
         return Err(WantOfMemory);
     };
-    let (words, points) = code(alloc, small, &mapped, &map, blocks)?;
+    let (words, points) = code(alloc, small, &mapped, &map, blocks, ends.as_slice())?;
     Ok((words, places, points))
 }

@@ -1,14 +1,14 @@
-use Rattle.std.proofs.Common.{◌≡◌, ◌+◌, ◌^◌, ◌<◌, ◌++◌, ◌∙◌, refl, arith, rules, ap, sym, subst, Some, Option, length, length-append, map, drop, get_or, List}
+use Rattle.std.proofs.Common.{◌≡◌, ◌+◌, ◌^◌, ◌<◌, ◌++◌, ◌∙◌, refl, arith, rules, ap, sym, subst, Some, None, Option, length, length-append, map, drop, get_or, List}
 use Rattle.std.specs.Prelude.{slice_get, All}
 use Rattle.std.proofs.lemmas.List.{length-map}
-use Rattle.std.proofs.lemmas.Option.{slice_get-get_or}
+use Rattle.std.proofs.lemmas.Option.{slice_get-get_or, get_or_from_slice_get}
 use Rattle.alpha_encode.specs.Words.{IsEncodable, word_of}
 use Rattle.alpha_encode.specs.declared.instr.AlphaInstr.{AlphaInstr}
 use Rattle.exception_records.specs.Blocks.{BlockValue}
 use Rattle.branch_layout.specs.Ends.{end_of, placed_size}
 use Rattle.branch_layout.specs.Layouts.{laid_points, next_address, placed_words}
 use Rattle.branch_layout.specs.declared.ends.End.{End}
-use Rattle.branch_layout.proofs.Building.{first_next, its_made, points_next, words_next}
+use Rattle.branch_layout.proofs.Building.{first_next, its_made, points_next, start_within, words_next}
 use Rattle.branch_layout.proofs.Laid.{targets_few, whole_few}
 use Rattle.branch_layout.proofs.Sizes.{room_at}
 use Rattle.branch_layout.proofs.Standing.{points_within}
@@ -28,8 +28,8 @@ overflow_cast-first c =
     let low : c.len-first.result < 2 ^ 32 = omega arith in
     search rules
 
-pub placed-requires-clause-within : goal.placed-requires-clause-within
-placed-requires-clause-within c =
+pub placed_words-requires-clause-within : goal.placed_words-requires-clause-within
+placed_words-requires-clause-within c =
     let bs = c.args.blocks.now in
     let i = c.loop-place.place in
     let r = c.index-blocks-place.result in
@@ -41,23 +41,27 @@ placed-requires-clause-within c =
     let so_far = c.loop-place.invariant.first in
     omega arith
 
-pub placed-requires-clause-targets : goal.placed-requires-clause-targets
-placed-requires-clause-targets c =
+pub placed_words-requires-clause-targets : goal.placed_words-requires-clause-targets
+placed_words-requires-clause-targets c =
     rw (c.requires.places, c.requires.mapped, c.requires.small) (targets_few c.args.blocks.now c.requires.blocks c.requires.rising c.requires.few)
 
-pub placed-requires-clause-block : goal.placed-requires-clause-block
-placed-requires-clause-block c =
+pub placed_words-requires-clause-block : goal.placed_words-requires-clause-block
+placed_words-requires-clause-block c =
     let own = c.requires.blocks c.loop-place.place c.index-blocks-place.result c.loop-place-test.true in
     ((get_or c.args.blocks.now c.loop-place.place c.index-blocks-place.result).0, own)
 
-pub placed-requires-clause-start : goal.placed-requires-clause-start
-placed-requires-clause-start c =
+pub placed_words-requires-clause-start : goal.placed_words-requires-clause-start
+placed_words-requires-clause-start c =
     let bs = c.args.blocks.now in
     let i = c.loop-place.place in
     let r = c.index-blocks-place.result in
     let b = get_or bs i r in
     let at : slice_get bs i ≡ Some b = slice_get-get_or bs i r c.loop-place-test.true in
-    c.end_at-end.ensures.start b at
+    let told = c.requires.ends.each i b c.loop-place-test.true at in
+    start_within c.args.small c.args.mapped.now (next_address (drop (i + 1) bs)) b.1 (get_or c.args.ends.now i None) (get_or_from_slice_get c.args.ends.now i _ None told)
+
+pub bounds-ends-place : goal.bounds-ends-place
+bounds-ends-place c = rw c.requires.ends.counted c.loop-place-test.true
 
 pub append_words-requires : goal.append_words-requires
 append_words-requires c =
@@ -67,9 +71,10 @@ append_words-requires c =
     let b = get_or bs i r in
     let at : slice_get bs i ≡ Some b = slice_get-get_or bs i r c.loop-place-test.true in
     let first : c.len-first.result ≡ length c.loop-place.words.items = search rules in
-    let ends = c.end_at-end.ensures.end b at in
-    let known = its_made bs c.requires.blocks c.requires.rising c.requires.few c.args.small c.args.mapped.now c.args.map.now c.requires.small c.requires.mapped c.requires.places i b at c.len-first.result (first ∙ c.loop-place.invariant.first) c.end_at-end.result ends in
-    let instrs : c.as_slice.result.now ≡ placed_words c.args.map.now c.len-first.result c.end_at-end.result b.1 = c.as_slice.ensures.value ∙ c.in_ok-instrs.ensures in
+    let told = c.requires.ends.each i b c.loop-place-test.true at in
+    let ends = get_or_from_slice_get c.args.ends.now i _ None told in
+    let known = its_made bs c.requires.blocks c.requires.rising c.requires.few c.args.small c.args.mapped.now c.args.map.now c.requires.small c.requires.mapped c.requires.places i b at c.len-first.result (first ∙ c.loop-place.invariant.first) (get_or c.args.ends.now i None) ends in
+    let instrs : c.as_slice.result.now ≡ placed_words c.args.map.now c.len-first.result (get_or c.args.ends.now i None) b.1 = c.as_slice.ensures.value ∙ c.in_ok-placed_words.ensures in
     subst (λ (is : List AlphaInstr). All IsEncodable is) (sym instrs) known.encodable
 
 pub append_points-requires : goal.append_points-requires
@@ -95,10 +100,11 @@ loop-place-preserved c =
     let b = get_or bs i r in
     let at : slice_get bs i ≡ Some b = slice_get-get_or bs i r c.loop-place-test.true in
     let first : c.len-first.result ≡ length c.loop-place.words.items = search rules in
-    let ends = c.end_at-end.ensures.end b at in
-    let known = its_made bs c.requires.blocks c.requires.rising c.requires.few c.args.small c.args.mapped.now c.args.map.now c.requires.small c.requires.mapped c.requires.places i b at c.len-first.result (first ∙ c.loop-place.invariant.first) c.end_at-end.result ends in
-    let instrs : c.as_slice.result.now ≡ placed_words c.args.map.now c.len-first.result c.end_at-end.result b.1 = c.as_slice.ensures.value ∙ c.in_ok-instrs.ensures in
-    let of_end : placed_words c.args.map.now c.len-first.result c.end_at-end.result b.1 ≡ placed_words c.args.map.now c.len-first.result (end_of c.args.small c.args.mapped.now (next_address (drop (i + 1) bs)) b.1) b.1 = ap (λ (o : Option End). placed_words c.args.map.now c.len-first.result o b.1) ends in
+    let told = c.requires.ends.each i b c.loop-place-test.true at in
+    let ends = get_or_from_slice_get c.args.ends.now i _ None told in
+    let known = its_made bs c.requires.blocks c.requires.rising c.requires.few c.args.small c.args.mapped.now c.args.map.now c.requires.small c.requires.mapped c.requires.places i b at c.len-first.result (first ∙ c.loop-place.invariant.first) (get_or c.args.ends.now i None) ends in
+    let instrs : c.as_slice.result.now ≡ placed_words c.args.map.now c.len-first.result (get_or c.args.ends.now i None) b.1 = c.as_slice.ensures.value ∙ c.in_ok-placed_words.ensures in
+    let of_end : placed_words c.args.map.now c.len-first.result (get_or c.args.ends.now i None) b.1 ≡ placed_words c.args.map.now c.len-first.result (end_of c.args.small c.args.mapped.now (next_address (drop (i + 1) bs)) b.1) b.1 = ap (λ (o : Option End). placed_words c.args.map.now c.len-first.result o b.1) ends in
     let count : length (placed_words c.args.map.now c.len-first.result (end_of c.args.small c.args.mapped.now (next_address (drop (i + 1) bs)) b.1) b.1) ≡ placed_size (end_of c.args.small c.args.mapped.now (next_address (drop (i + 1) bs)) b.1) b.1 =
     sym (ap length of_end) ∙ known.count ∙ ap (λ (o : Option End). placed_size o b.1) ends
     in

@@ -1,10 +1,10 @@
-use Rattle.std.proofs.Common.{◌≡◌, ◌+◌, ◌<◌, ◌≤◌, ◌∙◌, arith, rules, ap, Some, None, Option, length, get_or}
+use Rattle.std.proofs.Common.{◌≡◌, ◌+◌, ◌<◌, ◌≤◌, ◌∙◌, arith, rules, ap, subst, Some, None, Option, length, get_or}
 use Rattle.std.specs.Prelude.{IfSome, slice_get, drop}
 use Rattle.std.proofs.lemmas.Option.{slice_get-get_or, get_or_from_slice_get}
 use Rattle.branch_layout.specs.Ends.{placed_size}
-use Rattle.branch_layout.specs.Layouts.{next_address}
+use Rattle.branch_layout.specs.Layouts.{AreEnds, next_address}
 use Rattle.branch_layout.specs.declared.ends.End.{End}
-use Rattle.branch_layout.proofs.Building.{places_next, size_within}
+use Rattle.branch_layout.proofs.Building.{ends_next, places_next, size_within}
 use Rattle.branch_layout.proofs.layout.places.Goals as goal
 
 pub placed_size-first-requires-clause-start : goal.placed_size-first-requires-clause-start
@@ -57,5 +57,11 @@ loop-place-preserved c =
     record {
       within = omega arith;
       pairs = places_next c.args.small c.args.mapped.now bs i b at c.loop-place.places.items c.push.new.self.items _ c.loop-place.first c.placed_size-first.result (rw (get_or_from_slice_get bs i b c.index-blocks-place.result at) at c.in_ok-push.ensures.items) added c.loop-place.invariant.pairs;
+      ends = ends_next c.args.small c.args.mapped.now bs i b c.loop-place.ends.items c.push-in-loop-place.new.self.items c.end_at-end.result at c.in_ok-push-2.ensures.items (c.end_at-end.ensures.end b at) c.loop-place.invariant.ends;
       low = omega arith;
     }
+
+pub returns-clause-ends : goal.returns-clause-ends
+returns-clause-ends c =
+    let many : c.loop-place.place ≡ length c.args.blocks.now = omega arith in
+    subst (λ n. AreEnds c.args.small c.args.mapped.now c.args.blocks.now n c.loop-place.ends.items) many c.loop-place.invariant.ends

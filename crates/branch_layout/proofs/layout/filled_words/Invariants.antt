@@ -1,6 +1,6 @@
 use Rattle.branch_layout.proofs.Filled.{FilledTo}
 use Rattle.branch_layout.proofs.Filling.{IsFilledUpTo}
-use Rattle.branch_layout.proofs.layout.filled.Given as goal
+use Rattle.branch_layout.proofs.layout.filled_words.Given as goal
 
 abbrev pub invariant-loop-word : goal.invariant-loop-word
 invariant-loop-word l =

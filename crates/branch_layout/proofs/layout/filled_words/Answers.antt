@@ -2,7 +2,7 @@ use Rattle.std.proofs.Common.{◌≡◌, length, arith, rules, ap, ◌∙◌}
 use Rattle.exception_records.specs.Blocks.{BlockValue}
 use Rattle.branch_layout.proofs.Filled.{filled_next, filled_whole}
 use Rattle.branch_layout.proofs.Filling.{filled_more, written_back}
-use Rattle.branch_layout.proofs.layout.filled.Goals as goal
+use Rattle.branch_layout.proofs.layout.filled_words.Goals as goal
 
 pub loop-word-preserved : goal.loop-word-preserved
 loop-word-preserved c =
