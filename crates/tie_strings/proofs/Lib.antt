@@ -9,3 +9,4 @@ pub mod BegunMoves
 pub mod BegunStrings
 pub mod LongOperations
 pub mod Returns
+pub mod Telling

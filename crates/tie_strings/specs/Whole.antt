@@ -1,5 +1,5 @@
 -- For what a `LongTie` stands.
-use Rattle.std.specs.Prelude.{◌≡◌, ℕ, [], List, true, Result}
+use Rattle.std.specs.Prelude.{◌≡◌, ℕ, Bool, false, [], List, true, Result}
 use Rattle.vax_form.specs.Grammar.{Found, instruction, reserved_instruction, reserved_mode, past}
 use Rattle.vax_form.specs.Row.{is_long_at}
 use Rattle.vax_form.specs.Tree.{Tree, feed}
@@ -14,7 +14,7 @@ use Rattle.tie_operands.specs.Rest.{instr_of, operands_rest, rest_with, LeadsTo}
 use Rattle.tie_operands.specs.Steps.{StandsFor}
 use Rattle.tie_operands.specs.declared.operands.Operands.{Operands}
 use Rattle.tie_strings.specs.Bodies.{long_tree, body_rest}
-use Rattle.tie_strings.specs.Strings.{loop_tree}
+use Rattle.tie_strings.specs.Strings.{loop_tree, strings_tell}
 use Rattle.tie_strings.specs.declared.tie.LongTie.{LongTie}
 use Rattle.tie_strings.specs.declared.tie.Stage.{Stage}
 use Rattle.tie_strings.specs.declared.tie.Stage.TheVariants.{Evaluates, Closes, Repeats}
@@ -47,6 +47,15 @@ stage_rest pages (Repeats under_way) = feed pages (loop_tree pages under_way) []
 -- the rest of the tree, with the checks that hold behind it
 abbrev pub rest_of : Pages → LongTie → Tree
 rest_of pages tie = stage_rest pages tie.stage
+
+-- a string is under way that tells what it wants
+abbrev pub stage_tells : Pages → Stage → Bool
+stage_tells pages (Evaluates operation operands) = false
+stage_tells pages (Closes closing) = false
+stage_tells pages (Repeats under_way) = strings_tell pages under_way.strings
+
+abbrev pub goes_on_alone : Pages → LongTie → Bool
+goes_on_alone pages tie = stage_tells pages tie.stage
 
 abbrev pub before_of : LongTie → VaxState
 before_of tie = tie.before

@@ -1,5 +1,5 @@
 // CMPC3: strings compared a byte at a time.
-ghost use Rattle.std.specs.Prelude.{◌≡◌, ◌==◌, ◌-◌, ◌∷◌, [], IfSome};
+ghost use Rattle.std.specs.Prelude.{◌≡◌, ◌==◌, ◌-◌, ◌∷◌, [], IfSome, is_some};
 ghost use Rattle.vax_meaning.specs.Play.{Plays, Uses};
 
 use crate::byte::{may_be_read, next_byte, read_of};
@@ -53,6 +53,7 @@ impl Comparing {
     ghost use Rattle.tie_operands.specs.Steps.{IsAsking, Shows};
     ghost use Rattle.tie_operands.specs.declared.step.TieStep.TheVariants.{Want};
     ghost use Rattle.tie_strings.specs.Compares.{compare_second, compare_on, comparing_script};
+    ghost use Rattle.tie_strings.specs.Strings.{compare_tells};
 
     /// Compares the second of two bytes with the first, and what is left behind both.
     fn second_compared(&self, cursor: &mut Cursor, checked: bool, one: u8) -> Result<u16, Stop>
@@ -114,7 +115,8 @@ impl Comparing {
     /// The reference that is wanted, if any.
     #[inline(always)]
     pub(crate) fn wanted(&self, pages: &Pages) -> Option<Reference>
-        ensures { IfSome result (λ reference. (before state : VaxState)
+        ensures just { is_some result ≡ compare_tells pages.now self.now }
+        ensures shows { IfSome result (λ reference. (before state : VaxState)
             → Shows before (feed pages.now (instruction_tree pages.now (comparing_script self.now.checked self.now.pair self.now.left self.now.first self.now.second self.now.compared) state) []) (Want reference)) }
     {
         match self.pair {
@@ -147,6 +149,7 @@ impl Comparing {
     }
 
     /// Takes the reply to the reference that is wanted.
+    #[inline(always)]
     pub(crate) fn take(&mut self, reply: u64)
         ensures { (pages : Pages) (state : VaxState)
             → IsAsking (feed pages (instruction_tree pages (comparing_script self.old.checked self.old.pair self.old.left self.old.first self.old.second self.old.compared) state) [])

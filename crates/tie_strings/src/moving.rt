@@ -1,5 +1,5 @@
 // MOVC3 and MOVC5: strings moved a byte at a time.
-ghost use Rattle.std.specs.Prelude.{◌≡◌, ◌∷◌, [], IfSome};
+ghost use Rattle.std.specs.Prelude.{◌≡◌, ◌∷◌, [], IfSome, is_some};
 ghost use Rattle.vax_meaning.specs.Play.{Plays, Uses};
 
 use crate::byte::{read_of, write_of};
@@ -49,6 +49,7 @@ impl Moving {
     ghost use Rattle.tie_operands.specs.Steps.{Shows};
     ghost use Rattle.tie_operands.specs.declared.step.TieStep.TheVariants.{Want};
     ghost use Rattle.tie_strings.specs.Moves.{move_on, moving_script};
+    ghost use Rattle.tie_strings.specs.Strings.{move_tells};
 
     /// Moves what is left.
     #[tactic(auto, unfolding(crate::specs::Moves::move_on))]
@@ -88,7 +89,8 @@ impl Moving {
     /// The reference that is wanted, if any.
     #[inline(always)]
     pub(crate) fn wanted(&self) -> Option<Reference>
-        ensures { IfSome result (λ reference. (pages : Pages) (before state : VaxState)
+        ensures just { is_some result ≡ move_tells self.now }
+        ensures shows { IfSome result (λ reference. (pages : Pages) (before state : VaxState)
             → Shows before (feed pages (instruction_tree pages (moving_script self.now.byte self.now.down self.now.left self.now.from self.now.to self.now.fill self.now.moved) state) []) (Want reference)) }
     {
         match self.byte {

@@ -1,5 +1,5 @@
 // LOCC and SKPC: a string searched a byte at a time.
-ghost use Rattle.std.specs.Prelude.{◌≡◌, ◌∷◌, [], IfSome};
+ghost use Rattle.std.specs.Prelude.{◌≡◌, ◌∷◌, [], IfSome, is_some};
 ghost use Rattle.vax_meaning.specs.Play.{Plays, Uses};
 
 use crate::byte::{may_be_read, next_byte, read_of};
@@ -38,6 +38,7 @@ impl Scanning {
     ghost use Rattle.tie_operands.specs.Steps.{IsAsking, Shows};
     ghost use Rattle.tie_operands.specs.declared.step.TieStep.TheVariants.{Want};
     ghost use Rattle.tie_strings.specs.Scans.{scan_on, scanning_script};
+    ghost use Rattle.tie_strings.specs.Strings.{scan_tells};
 
     /// Searches what is left, and gives the number of bytes left.
     #[tactic(auto, unfolding(crate::specs::Scans::scan_on))]
@@ -81,7 +82,8 @@ impl Scanning {
     /// The reference that is wanted, if any.
     #[inline(always)]
     pub(crate) fn wanted(&self, pages: &Pages) -> Option<Reference>
-        ensures { IfSome result (λ reference. (before state : VaxState)
+        ensures just { is_some result ≡ scan_tells pages.now self.now }
+        ensures shows { IfSome result (λ reference. (before state : VaxState)
             → Shows before (feed pages.now (instruction_tree pages.now (scanning_script self.now.stopped self.now.checked self.now.left self.now.address self.now.scanned) state) []) (Want reference)) }
     {
         if self.stopped {
@@ -108,6 +110,7 @@ impl Scanning {
     }
 
     /// Takes the reply to the reference that is wanted.
+    #[inline(always)]
     pub(crate) fn take(&mut self, reply: u64)
         ensures { (pages : Pages) (state : VaxState)
             → IsAsking (feed pages (instruction_tree pages (scanning_script self.old.stopped self.old.checked self.old.left self.old.address self.old.scanned) state) [])

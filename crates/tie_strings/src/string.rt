@@ -1,5 +1,5 @@
 // An instruction with strings that is under way.
-ghost use Rattle.std.specs.Prelude.{◌≡◌, ◌∷◌, [], IfSome};
+ghost use Rattle.std.specs.Prelude.{◌≡◌, ◌∷◌, [], IfSome, is_some};
 ghost use Rattle.vax_meaning.specs.Play.{Plays, Uses};
 
 use crate::comparing::Comparing;
@@ -23,7 +23,7 @@ impl Strings {
     ghost use Rattle.vax_form.specs.declared.state.VaxState.{VaxState};
     ghost use Rattle.tie_operands.specs.Steps.{IsAsking, Shows};
     ghost use Rattle.tie_operands.specs.declared.step.TieStep.TheVariants.{Want};
-    ghost use Rattle.tie_strings.specs.Strings.{strings_script, strings_tree};
+    ghost use Rattle.tie_strings.specs.Strings.{strings_script, strings_tell, strings_tree};
 
     /// Goes through it.
     fn run(&self, cursor: &mut Cursor) -> Result<End, Stop>
@@ -39,8 +39,9 @@ impl Strings {
 
     /// The reference that is wanted, if any.
     #[inline(always)]
-    fn wanted(&self, pages: &Pages) -> Option<Reference>
-        ensures { IfSome result (λ reference. (before state : VaxState) → Shows before (feed pages.now (strings_tree pages.now self.now state) []) (Want reference)) }
+    pub(crate) fn wanted(&self, pages: &Pages) -> Option<Reference>
+        ensures just { is_some result ≡ strings_tell pages.now self.now }
+        ensures shows { IfSome result (λ reference. (before state : VaxState) → Shows before (feed pages.now (strings_tree pages.now self.now state) []) (Want reference)) }
     {
         match self {
             Strings::Moves(moving) => moving.wanted(),
@@ -62,7 +63,8 @@ impl Strings {
     }
 
     /// Takes the reply to the reference that is wanted.
-    fn take(&mut self, reply: u64)
+    #[inline(always)]
+    pub(crate) fn take(&mut self, reply: u64)
         ensures { (pages : Pages) (state : VaxState) → IsAsking (feed pages (strings_tree pages self.old state) [])
             → feed pages (strings_tree pages self.old state) (reply ∷ []) ≡ feed pages (strings_tree pages self.new state) [] }
     {

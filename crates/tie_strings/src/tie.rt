@@ -1,5 +1,5 @@
 // A long instruction, one reference at a time.
-ghost use Rattle.std.specs.Prelude.{◌≡◌, []};
+ghost use Rattle.std.specs.Prelude.{◌≡◌, ◌∷◌, [], IfSome, is_some, true};
 ghost use Rattle.tie_strings.specs.Whole.{closed_at, led, LeadsToBody};
 
 use crate::begun::{comparison_begun, filled_move_begun, move_begun, search_begun};
@@ -7,7 +7,7 @@ use crate::body::{Body, Plain};
 use crate::string::{StringLoop, Strings};
 use tie_operands::{Operands, Replies, TieStep};
 use vax_decode::{Decoded, decode_at};
-use vax_form::{Instr, LongOperation, Operation, Pages, Stop, VaxState};
+use vax_form::{Instr, LongOperation, Operation, Pages, Reference, Stop, VaxState};
 use vax_long::long_operation_of;
 use vax_meaning::{Cursor, Evaluated};
 
@@ -44,7 +44,7 @@ pub struct LongTie {
 impl LongTie {
     ghost use Rattle.std.specs.Prelude.{ℕ, List, ◌++◌};
     ghost use Rattle.vax_form.specs.GrammarFound.{found};
-    ghost use Rattle.vax_form.specs.Tree.{Tree, answer, feed, outcome, instruction_tree};
+    ghost use Rattle.vax_form.specs.Tree.{Tree, Wants, answer, feed, outcome, instruction_tree};
     ghost use Rattle.vax_form.specs.declared.pages.Pages.{Pages};
     ghost use Rattle.vax_form.specs.declared.state.VaxState.{VaxState};
     ghost use Rattle.vax_decode.specs.Decoded.{found_of};
@@ -55,7 +55,7 @@ impl LongTie {
     ghost use Rattle.vax_form.specs.declared.operation.LongOperation.TheVariants.{MoveCharacters, MoveCharactersFilled, CompareCharacters, LocateCharacter, SkipCharacter};
     ghost use Rattle.tie_strings.specs.Bodies.{body_at, long_of};
     ghost use Rattle.tie_strings.specs.Strings.{strings_tree};
-    ghost use Rattle.tie_strings.specs.Whole.{IsLong, rest_of, stage_rest, before_of, Stands};
+    ghost use Rattle.tie_strings.specs.Whole.{IsLong, goes_on_alone, rest_of, stage_rest, before_of, Stands};
     ghost use Rattle.tie_strings.specs.declared.tie.Stage.TheVariants.{Evaluates, Closes};
 
     /// Begins the long instruction (`vax_form::is_long`) that stands at the PC.
@@ -332,5 +332,30 @@ impl LongTie {
             → IfWant result (Stands pages.now self.new state tree (replies ++ list_of reply)) }
     {
         self.taken_on(pages, reply)
+    }
+
+    /// The reference that is wanted, where what is left of a string tells it.
+    #[inline(always)]
+    pub fn told(&self, pages: &Pages) -> Option<Reference>
+        ensures just { is_some result ≡ goes_on_alone pages.now self.now }
+        ensures wanted { IfSome result (λ reference. (state : VaxState) (tree : Tree) (replies : List ℕ) → Stands pages.now self.now state tree replies
+            → answer pages.now tree replies ≡ Wants reference) }
+    {
+        match &self.stage {
+            Stage::Repeats(under_way) => under_way.strings.wanted(pages),
+            Stage::Evaluates(..) | Stage::Closes(_) => None,
+        }
+    }
+
+    /// Takes the reply to the reference that is told.
+    #[inline(always)]
+    pub fn take(&mut self, reply: u64)
+        ensures { (pages : Pages) → goes_on_alone pages self.old ≡ true → (state : VaxState) (tree : Tree) (replies : List ℕ) → Stands pages self.old state tree replies
+            → Stands pages self.new state tree (replies ++ reply ∷ []) }
+    {
+        match &mut self.stage {
+            Stage::Repeats(under_way) => under_way.strings.take(reply),
+            Stage::Evaluates(..) | Stage::Closes(_) => {}
+        }
     }
 }
