@@ -198,7 +198,8 @@ impl Interpreted {
         self.step_by(pages, &mut [], reply)
     }
 
-    // Goes on in an instruction with strings to its next reference or to its end, where the state behind it is put.
+    // Goes on in an instruction with strings to its next reference or to its end, where the state behind it is put: in place, where
+    // what is left of a string tells both references.
     #[inline(always)]
     fn strings_step(
         tie: &mut LongTie,
@@ -211,7 +212,17 @@ impl Interpreted {
         ensures stands { (state : VaxState) (tree : Tree) (replies : List ℕ) → strings.Stands pages.now tie.old state tree replies
             → IfWants (step_with result after.new) (strings.Stands pages.now tie.new state tree (replies ++ list_of reply)) }
     {
-        Came::handled(&tie.step(pages, reply), after)
+        let Some(given) = reply else {
+            return Came::handled(&tie.step(pages, None), after);
+        };
+        if tie.told(pages).is_none() {
+            return Came::handled(&tie.step(pages, Some(given)), after);
+        }
+        tie.take(given);
+        match tie.told(pages) {
+            Some(reference) => Came::Wants(reference),
+            None => Came::handled(&tie.step(pages, None), after),
+        }
     }
 
     // Begins an instruction with strings, and goes on to its first reference or to the end.
