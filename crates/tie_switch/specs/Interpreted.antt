@@ -1,11 +1,16 @@
 -- What a thread does at a state, interpreted a reference at a time.
-use Rattle.std.specs.Prelude.{◌≡◌, ◌≢◌, ◌<◌, ℕ, List, [], length, take, Option, Some, None}
+use Rattle.std.specs.Prelude.{◌≡◌, ◌≢◌, ◌<◌, ◌||◌, ℕ, Bool, true, false, List, [], length, take, Option, Some, None}
 use Rattle.vax_form.specs.Grammar.{Found, instruction, reserved_instruction, reserved_mode, past}
 use Rattle.vax_form.specs.GrammarFound.{found}
 use Rattle.vax_form.specs.Moments.{handled_ending, handled_failure}
 use Rattle.vax_form.specs.Tree.{Answer, Wants, Fails, Comes, Finish, Exit, Trap, answer, instruction_tree, outcome}
 use Rattle.vax_form.specs.declared.instr.Instr.{Instr}
+use Rattle.vax_form.specs.Targets.{operand_of}
+use Rattle.vax_form.specs.declared.instr.Operand.{Operand}
+use Rattle.vax_form.specs.declared.instr.Operand.TheVariants.{Place}
 use Rattle.vax_form.specs.declared.operation.LongOperation.{LongOperation}
+use Rattle.vax_form.specs.declared.operation.Operation.{Operation}
+use Rattle.vax_form.specs.declared.operation.Operation.TheVariants as operations
 use Rattle.vax_form.specs.declared.pages.Pages.{Pages}
 use Rattle.vax_form.specs.declared.state.Exception.{Exception}
 use Rattle.vax_form.specs.declared.state.Exception.TheVariants.{Arithmetic}
@@ -132,3 +137,24 @@ pub record IsBefore (pages : Pages) (boundary : VaxState) (instr : Instr) (state
   pub nothing : boundary.pending ≡ Nothing
   pub same : state ≡ boundary
   pub none : replies ≡ []
+
+-- ---- what is gone through at once
+-- an operation makes references besides those of its operands
+abbrev pub asks_beyond_operands : Option Operation → Bool
+asks_beyond_operands (Some operations.PushLong) = true
+asks_beyond_operands (Some (operations.PushAddress size)) = true
+asks_beyond_operands (Some (operations.BranchToSubroutine width)) = true
+asks_beyond_operands (Some operations.JumpToSubroutine) = true
+asks_beyond_operands (Some operations.ReturnFromSubroutine) = true
+asks_beyond_operands (Some operations.ChangeMode) = true
+asks_beyond_operands (Some _) = false
+asks_beyond_operands None = false
+
+-- an operand is in memory
+abbrev pub is_place : Operand → Bool
+is_place (Place base index) = true
+is_place _ = false
+
+-- one of the operands that are looked at is: few instructions have more
+abbrev pub has_places : Instr → Bool
+has_places instr = is_place (operand_of instr 0) || (is_place (operand_of instr 1) || is_place (operand_of instr 2))

@@ -1,7 +1,7 @@
 // An instruction without strings, gone through anew with each reply.
 ghost use Rattle.std.specs.Prelude.{◌≡◌, ◌<◌, ◌++◌, ◌∷◌, ℕ, List, [], length, true, IfSome, IfNone};
 ghost use Rattle.tie_operands.specs.Replies.{list_of};
-ghost use Rattle.tie_switch.specs.Interpreted.{HasStrings, IfWants, IsPlayed, StepsBy, kept_of, step_of, step_with};
+ghost use Rattle.tie_switch.specs.Interpreted.{HasStrings, IfWants, IsPlayed, StepsBy, asks_beyond_operands, has_places, is_place, kept_of, step_of, step_with};
 ghost use Rattle.tie_switch.specs.Known.{AreFound};
 ghost use Rattle.tie_switch.specs.declared.interpreted.Step.TheVariants.{Leaves, Wants};
 ghost use Rattle.tie_switch.specs.declared.place.Last.TheVariants.{Finish};
@@ -22,9 +22,6 @@ use vax_form::{
 };
 use vax_meaning::Cursor;
 
-/// So many operands are looked at before an instruction is gone through at once: few have more.
-const LOOKED_AT: usize = 3;
-
 /// The opcode of RET.
 const RETURN: u8 = 0x04;
 
@@ -44,7 +41,9 @@ fn long_among(operation: Option<Operation>) -> Option<LongOperation>
 }
 
 // Whether an operation makes references besides those of its operands.
-fn asks(operation: Option<Operation>) -> bool {
+fn asks(operation: Option<Operation>) -> bool
+    ensures { result ≡ asks_beyond_operands operation }
+{
     matches!(
         operation,
         Some(
@@ -58,11 +57,21 @@ fn asks(operation: Option<Operation>) -> bool {
     )
 }
 
-// Whether one of the operands that are looked at is in memory.
-fn has_places(instr: &Instr) -> bool {
-    instr.operands[..LOOKED_AT]
-        .iter()
-        .any(|operand| matches!(operand, Operand::Place { .. }))
+// Whether an operand is in memory.
+#[inline(always)]
+fn is_place(operand: &Operand) -> bool
+    ensures { result ≡ is_place operand.now }
+{
+    matches!(operand, Operand::Place { .. })
+}
+
+// Whether one of the operands that are looked at is in memory: few instructions have more.
+#[inline(always)]
+fn has_places(instr: &Instr) -> bool
+    ensures { result ≡ has_places instr.now }
+{
+    let operands = &instr.operands;
+    is_place(&operands[0]) || is_place(&operands[1]) || is_place(&operands[2])
 }
 
 /// Goes through an instruction that is not long and is thought to make no reference, and tells whether it ended there, so that
