@@ -57,9 +57,8 @@ abbrev pub arrives : Code → Alpha → (most : ℕ) → Bool
 arrives code c zero = false
 arrives code c (suc most) = arrives code c most || lands_behind code (steps_in code c most)
 
--- where it doesn't arrive it stands where the steps inside the block end, of which there are at most so many
-pub record Rests (code : Code) (c d : Cpu) (most : ℕ) : Type 0 where
-  pub steps : ℕ
+-- where it doesn't arrive it stands behind so many steps inside the block: all that there are, but at most so many
+pub record Rests (code : Code) (c d : Cpu) (most steps : ℕ) : Type 0 where
   pub few : steps ≤ most
   pub ran : steps_in code (state_of c) steps ≡ Some (state_of d)
   pub stops : steps < most → step_in code (state_of d) ≡ None

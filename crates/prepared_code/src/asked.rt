@@ -10,6 +10,7 @@ ghost use Rattle.prepared_code.specs.Asks.{AsksInside, IsOfItsRow, asks_inside};
 ghost use Rattle.prepared_code.specs.Effects.{behind};
 
 use crate::effect::{Effect, commit};
+use crate::place::Stepping;
 use crate::prepared::Prepared;
 use alpha_encode::{AlphaInstr, MemoryOp, registers};
 use alpha_machine::Cpu;
@@ -88,14 +89,16 @@ impl<'a> Prepared<'a> {
         ensures row { IfSome result IsOfItsRow }
     {
         match self.instr_at(cpu.pc) {
-            Some(AlphaInstr::Memory { op, ra, rb, disp }) => self.asked_by(cpu, op, ra, rb, disp),
+            Some(AlphaInstr::Memory { op, ra, rb, disp }) => self.asked_by::<Stepping>(
+                cpu, op, ra, rb, disp,
+            ),
             _ => None,
         }
     }
 
     /// The same of a word whose instruction is known.
     #[inline(always)]
-    pub fn asked_by(&self, cpu: &Cpu, op: MemoryOp, ra: u8, rb: u8, disp: i16) -> Option<Asked>
+    pub fn asked_by<L>(&self, cpu: &Cpu, op: MemoryOp, ra: u8, rb: u8, disp: i16) -> Option<Asked>
         requires ra { ra < 32 }
         requires rb { rb < 32 }
         requires few { cpu.now.pc < most_words }

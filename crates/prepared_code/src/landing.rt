@@ -11,6 +11,7 @@ ghost use Rattle.prepared_code.specs.Sources.{block_at};
 use crate::blocks::Block;
 use crate::effect::{Effect, commit};
 use crate::flat::Way;
+use crate::place::Stepping;
 use crate::prepared::Prepared;
 use crate::run::{value_of, way_out};
 use alpha_encode::registers;
@@ -95,7 +96,7 @@ impl<'a> Prepared<'a> {
         ensures is { (c : Alpha) → option_map (landed (behind c effect)) (block_at self.now effect.next) ≡ option_map (landed_by c) result }
         ensures effect { IfSome result (λ l. l.effect ≡ effect) }
     {
-        match self.block_at(effect.next) {
+        match self.block_at::<Stepping>(effect.next) {
             Some(block) => Some(Landing { effect, block }),
             None => None,
         }

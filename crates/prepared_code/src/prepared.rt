@@ -213,7 +213,7 @@ impl<'a> Prepared<'a> {
 
     /// The block that begins at a word.
     #[inline(always)]
-    pub fn block_at(&self, word: u32) -> Option<Block>
+    pub fn block_at<L>(&self, word: u32) -> Option<Block>
         ensures { result ≡ block_at self.now word }
     {
         match self.word(word) {

@@ -48,7 +48,7 @@ fn is_allowed(pages: &Pages, point: &Point, cpu: &Cpu) -> bool
 impl<'a> Prepared<'a> {
     // Whether the probe there goes on inside its block.
     #[inline(always)]
-    fn goes_on(&self, cpu: &Cpu) -> bool
+    fn goes_on<L>(&self, cpu: &Cpu) -> bool
         requires calls { fetch_of self.now.code.words cpu.now.pc ≡ Some (Pal PROBE) }
         requires few { cpu.now.pc < most_words }
         ensures just { result ≡ passes self.now (state_of cpu.now) }
@@ -62,13 +62,13 @@ impl<'a> Prepared<'a> {
 
     /// Whether the word there is a probe of at most eight bytes that may all be used, and no block begins at the next.
     #[inline(always)]
-    pub fn passes(&self, cpu: &Cpu) -> bool
+    pub fn passes<L>(&self, cpu: &Cpu) -> bool
         ensures just { result ≡ passes self.now (state_of cpu.now) }
         ensures passes { result ≡ true → Passes self.now (state_of cpu.now) }
         ensures few { result ≡ true → cpu.now.pc < most_words }
     {
         match self.instr_at(cpu.pc) {
-            Some(AlphaInstr::Pal(number)) => number == pal::PROBE && self.goes_on(cpu),
+            Some(AlphaInstr::Pal(number)) => number == pal::PROBE && self.goes_on::<L>(cpu),
             _ => false,
         }
     }

@@ -1,5 +1,6 @@
 // Many steps inside a block.
-ghost use Rattle.std.specs.Prelude.{◌≡◌, ◌<◌, ◌≤◌, ◌+◌, ◌^◌, ℕ, if◌then◌else◌, length, slice_get, slice_index, true, Some, None, IfNone, IfSome, is_some, option_map};
+ghost use Rattle.std.specs.Prelude.{◌≡◌, ◌<◌, ◌≤◌, ◌+◌, ◌^◌, ℕ, if◌then◌else◌, length, slice_get, slice_index, true, Some, None, IfErr, IfOk, IfSome, option_map};
+ghost use Rattle.std.specs.Result.{is_ok};
 ghost use Rattle.address_map.specs.Pairs.{AllRise};
 ghost use Rattle.alpha_machine.specs.Step.{state_of};
 ghost use Rattle.alpha_meaning.specs.Act.{taken};
@@ -16,6 +17,7 @@ ghost use Rattle.prepared_code.specs.Strides.{IsStride, Rests, arrives, fork_of,
 
 use crate::effect::{Effect, clear_31, commit, effect_of, register, write};
 use crate::flat::{Flat, Way};
+use crate::place::Stepping;
 use crate::prepared::Prepared;
 use alpha_encode::BranchOp;
 use alpha_machine::Cpu;
@@ -65,7 +67,7 @@ fn operate(cpu: &mut Cpu, flat: &Flat)
 
 /// Makes the steps of so many straight words.
 #[inline(always)]
-fn go_straight(cpu: &mut Cpu, flats: &[Flat], count: usize)
+fn go_straight<L>(cpu: &mut Cpu, flats: &[Flat], count: usize)
     requires zero { slice_index cpu.old.r 31 ≡ 0 }
     requires few { length flats.now ≤ most_words }
     requires within { cpu.old.pc + count ≤ length flats.now }
@@ -197,7 +199,7 @@ impl<'a> Prepared<'a> {
         };
         if flat.number > 0 {
             let count = most.min(u64::from(flat.number));
-            go_straight(cpu, flats, count as usize);
+            go_straight::<Stepping>(cpu, flats, count as usize);
             return count;
         }
         match flat.way {
@@ -258,7 +260,7 @@ impl<'a> Prepared<'a> {
 
     // Makes the step of a branch that may leave its block.
     #[inline(always)]
-    fn fork_over(&self, cpu: &mut Cpu, flat: &Flat, op: BranchOp) -> Stride
+    fn fork_over<L>(&self, cpu: &mut Cpu, flat: &Flat, op: BranchOp) -> Stride
         requires rise { AllRise self.now.code.map }
         requires fork { IsFork self.now.code cpu.old.pc flat.now op }
         requires more { cpu.old.pc + 1 < 2 ^ 32 }
@@ -278,7 +280,7 @@ impl<'a> Prepared<'a> {
     // Makes the steps inside the block that one look at the word makes, at most so many, or the one to another block that the
     // word tells.
     #[inline(always)]
-    fn stride_over(&self, cpu: &mut Cpu, most: u64) -> Stride
+    fn stride_over<L>(&self, cpu: &mut Cpu, most: u64) -> Stride
         requires some { 0 < most }
         requires zero { slice_index cpu.old.r 31 ≡ 0 }
         ensures zero { slice_index cpu.new.r 31 ≡ 0 }
@@ -291,7 +293,7 @@ impl<'a> Prepared<'a> {
         };
         if flat.number > 0 {
             let count = most.min(u64::from(flat.number));
-            go_straight(cpu, flats, count as usize);
+            go_straight::<L>(cpu, flats, count as usize);
             return Stride::Inside(count);
         }
         match flat.way {
@@ -310,28 +312,28 @@ impl<'a> Prepared<'a> {
                 go_by_branch(cpu, flat, op);
                 Stride::Inside(1)
             }
-            Way::Forks(op) => self.fork_over(cpu, flat, op),
+            Way::Forks(op) => self.fork_over::<L>(cpu, flat, op),
         }
     }
 
-    /// Goes through the block there and arrives at another, by local steps alone, at most so many, and tells how many. None:
-    /// the words tell of no such steps, and it stands where those inside the block end.
+    /// Goes through the block there and arrives at another, by local steps alone, at most so many, and tells how many. Err:
+    /// the words tell of no such steps, and it stands behind so many inside the block, where they end.
     #[inline(always)]
-    pub fn cross(&self, cpu: &mut Cpu, most: u64) -> Option<u64>
+    pub fn cross<L>(&self, cpu: &mut Cpu, most: u64) -> Result<u64, u64>
         ensures zero { slice_index cpu.new.r 31 ≡ 0 }
-        ensures just { is_some result ≡ arrives self.now.code (state_of cpu.old) most }
-        ensures crosses { IfSome result (λ steps. (steps ≤ most) × Crosses self.now.code cpu.old cpu.new steps) }
-        ensures rests { IfNone result (Rests self.now.code cpu.old cpu.new most) }
+        ensures just { is_ok result ≡ arrives self.now.code (state_of cpu.old) most }
+        ensures crosses { IfOk result (λ steps. (steps ≤ most) × Crosses self.now.code cpu.old cpu.new steps) }
+        ensures rests { IfErr result (Rests self.now.code cpu.old cpu.new most) }
     {
         clear_31(cpu);
         let mut made = 0;
         while made < most {
-            match self.stride_over(cpu, most - made) {
-                Stride::Inside(0) => return None,
+            match self.stride_over::<L>(cpu, most - made) {
+                Stride::Inside(0) => return Err(made),
                 Stride::Inside(steps) => made += steps,
-                Stride::Landed => return Some(made + 1),
+                Stride::Landed => return Ok(made + 1),
             }
         }
-        None
+        Err(made)
     }
 }

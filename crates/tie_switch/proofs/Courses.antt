@@ -1,6 +1,7 @@
 -- Local steps of a processor whose boundary is not worked out.
 use Rattle.std.proofs.Common.{◌≡◌, ℕ, zero, suc, ◌<◌, ◌+◌, ◌⊎◌, inl, inr, ◌&&◌, Bool, true, false, [], Option, Some, None, refl, sym, subst, ap, ◌∙◌, arith}
 use Rattle.std.specs.Prelude.{not, option_and_then, option_map}
+use Rattle.std.specs.Option.{option_or}
 use Rattle.alpha_machine.specs.Step.{state_of}
 use Rattle.alpha_machine.specs.declared.cpu.Cpu.{Cpu}
 use Rattle.alpha_meaning.specs.State.{Alpha, at_place}
@@ -19,7 +20,7 @@ use Rattle.system_model.specs.Ranges.{word_for}
 use Rattle.system_model.specs.Settings.{Setting, unless_pending}
 use Rattle.system_model.specs.Steps.{Last, Comes, Fails, Place, Inside, Lands, Leaves, Next, Moves, Wants, Stuck, next, settled_last}
 use Rattle.vax_form.specs.Tree.{Finish, Exit, Trap}
-use Rattle.tie_switch.specs.Courses.{Begins, boundary_by, course_of, Goes, HoldsNone}
+use Rattle.tie_switch.specs.Courses.{Begins, boundary_by, course_of, Goes, HoldsNone, landed_there}
 use Rattle.tie_switch.specs.Inside.{went, went_by, state_there, source_in, StepsAreTurns, LandingsAreTurns, ProbesAreTurns}
 use Rattle.tie_switch.specs.declared.course.Course.{Course}
 use Rattle.tie_switch.specs.declared.course.Landed.{Landed}
@@ -185,6 +186,30 @@ glides_on s pages old cpu new steps blocks more inside_law landing_law none_rang
           subst (Goes s thread before old there) count
           (goes_more s thread before old mid there steps (crosses.inside + 1) (was.goes thread before nothing) (goes_more s thread before mid last there crosses.inside 1 inside over));
     }
+
+-- it goes through one block, and keeps where it landed
+one_block : (s : Setting) (source : Source) (old : Course) (new : Cpu) (steps : ℕ) (one : Glides s source old new (0 + steps) (0 + 1)) → 0 < steps → (thread : ℕ) (before : VaxState) → before.pending ≡ Nothing
+    → Goes s thread before old (record old { cpu = new; landed = landed_there source new old.landed; retired = old.retired + 1 }) steps
+one_block s source old new steps one some thread before nothing = by one.there
+  where
+    by : (((0 + steps) ≡ 0) × (one.landed ≡ old.landed)) ⊎ LandedThere source new one.landed
+        → Goes s thread before old (record old { cpu = new; landed = landed_there source new old.landed; retired = old.retired + 1 }) steps
+    by (inl none) = absurd (omega (arith, none.0, some))
+    by (inr there) =
+        let came : one.landed ≡ landed_there source new old.landed =
+        there.2 ∙ sym (ap (λ (o : Option Block). option_or (option_map (λ (b : Block). record { cpu = new; block = b }) o) old.landed) there.1) in
+        let count : 0 + steps ≡ steps = omega arith in
+        let more : old.retired + (0 + 1) ≡ old.retired + 1 = omega arith in
+        subst (λ n. Goes s thread before old (record old { cpu = new; landed = landed_there source new old.landed; retired = old.retired + 1 }) n) count
+        (subst (λ r. Goes s thread before old (record old { cpu = new; landed = landed_there source new old.landed; retired = r }) (0 + steps)) more
+        (subst (λ (l : Option Landed). Goes s thread before old (record old { cpu = new; landed = l; retired = old.retired + (0 + 1) }) (0 + steps)) came (one.goes thread before nothing)))
+
+pub goes_over : (s : Setting) (pages : Pages) (old : Course) (new : Cpu) (steps : ℕ) → StepsAreTurns → LandingsAreTurns → s.ranges ≡ [] → HoldsNone old.held → Crosses s.code old.cpu new steps
+    → (thread : ℕ) (before : VaxState) → before.pending ≡ Nothing
+    → Goes s thread before old (record old { cpu = new; landed = landed_there (source_in s pages) new old.landed; retired = old.retired + 1 }) steps
+goes_over s pages old new steps inside_law landing_law none_ranges none crosses =
+    one_block s (source_in s pages) old new steps
+    (glides_on s pages old old.cpu new 0 0 steps inside_law landing_law none_ranges none (glides_nowhere s (source_in s pages) old) crosses) (omega (arith, crosses.counted))
 
 -- ---- the first turn of a new processor
 same_left : (s : Setting) (p : Processor) (m : Mode) (last : Last) → left s (record p { mode = m }) last ≡ left s p last

@@ -1,5 +1,5 @@
 -- Blocks of local steps that a course runs through with no look back.
-use Rattle.std.specs.Prelude.{◌≡◌, ℕ, ◌+◌, ◌-◌, ◌==◌, ◌&&◌, ◌||◌, Bool, true, false, not, nat_le, List, length, Result, Ok, Err}
+use Rattle.std.specs.Prelude.{◌≡◌, ℕ, ◌+◌, ◌-◌, ◌==◌, ◌&&◌, ◌||◌, Bool, true, false, not, nat_le, if◌then◌else◌, List, length, Result, Ok, Err}
 use Rattle.alpha_machine.specs.Step.{state_of}
 use Rattle.alpha_machine.specs.declared.cpu.Cpu.{Cpu}
 use Rattle.block_law.specs.Translations.{Code}
@@ -39,14 +39,15 @@ abbrev pub IsGlide : Code → (most : ℕ) → (old new : Cpu) → Result ℕ �
 IsGlide code most old new (Ok made) = Glided code most old new made × (is_guessed code new (most - made) ≡ false)
 IsGlide code most old new (Err made) = Fails code most old made
 
--- a course does so where it is plain and not watched, and begins at a word of which something is guessed
-abbrev pub may_glide : Code → List Range → Flags → Cpu → (is_watched : Bool) → Bool
-may_glide code ranges held cpu is_watched = not (guess code cpu.pc == 0 || is_watched) && is_plain ranges held
+-- how many steps it makes; none where it stays
+abbrev pub glided_on : Result ℕ ℕ → ℕ
+glided_on (Ok made) = made
+glided_on (Err made) = 0
 
--- how many steps it makes, and for how many it is to be watched then
-abbrev pub glided_on : Result ℕ ℕ → ℕ × ℕ
-glided_on (Ok made) = (made, 0)
-glided_on (Err made) = (0, made + 1)
-
-abbrev pub IsGlideOn : Code → (most : ℕ) → (old new : Cpu) → ℕ × ℕ → Type 0
+abbrev pub IsGlideOn : Code → (most : ℕ) → (old new : Cpu) → ℕ → Type 0
 IsGlideOn code most old new told = (r : Result ℕ ℕ) × IsGlide code most old new r × (told ≡ glided_on r)
+
+-- ---- landings that are kept
+-- how many in a row something is guessed at, with the one there
+abbrev pub row_behind : Code → Cpu → (before : ℕ) → ℕ
+row_behind code cpu before = if guess code cpu.pc == 0 then 0 else before + 1

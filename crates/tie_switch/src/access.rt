@@ -21,15 +21,30 @@ use crate::processor::Processor;
 use crate::request::request_by;
 use crate::setting::Setting;
 use crate::turn::Turn;
-use alpha_encode::{AlphaInstr, MemoryOp};
+use alpha_encode::{AlphaInstr, MemoryOp as Op};
 use memory_core::{Memory, Reply};
-use prepared_code::Prepared;
+use prepared_code::{Prepared, Stepping};
+
+// The places of accesses by their operations.
+pub(crate) struct Ldl;
+
+pub(crate) struct Stl;
+
+pub(crate) struct LdqL;
+
+pub(crate) struct StqC;
+
+pub(crate) struct LdqU;
+
+pub(crate) struct Ldbu;
+
+pub(crate) struct Stb;
 
 impl Course {
     /// Makes the access of its word, where that is one inside a block; where the history is full it stays. Any other turn is
     /// left to be made.
     #[inline(always)]
-    pub(crate) fn access<M: Memory>(
+    pub(crate) fn access<M: Memory, L>(
         &mut self,
         setting: Setting<'_>,
         prepared: &Prepared<'_>,
@@ -58,28 +73,28 @@ impl Course {
         let Some(AlphaInstr::Memory { op, ra, rb, disp }) = prepared.instr_at(self.cpu.pc) else {
             return None;
         };
-        let place = (ra, rb, disp);
+        let at = (ra, rb, disp);
         match op {
-            MemoryOp::Ldl => self.ask(setting, prepared, thread, memory, MemoryOp::Ldl, place),
-            MemoryOp::Stl => self.ask(setting, prepared, thread, memory, MemoryOp::Stl, place),
-            MemoryOp::LdqL => self.ask(setting, prepared, thread, memory, MemoryOp::LdqL, place),
-            MemoryOp::StqC => self.ask(setting, prepared, thread, memory, MemoryOp::StqC, place),
-            MemoryOp::LdqU => self.ask(setting, prepared, thread, memory, MemoryOp::LdqU, place),
-            MemoryOp::Ldbu => self.ask(setting, prepared, thread, memory, MemoryOp::Ldbu, place),
-            MemoryOp::Stb => self.ask(setting, prepared, thread, memory, MemoryOp::Stb, place),
-            _ => self.ask(setting, prepared, thread, memory, op, place),
+            Op::Ldl => self.ask::<M, (L, Ldl)>(setting, prepared, thread, memory, Op::Ldl, at),
+            Op::Stl => self.ask::<M, (L, Stl)>(setting, prepared, thread, memory, Op::Stl, at),
+            Op::LdqL => self.ask::<M, (L, LdqL)>(setting, prepared, thread, memory, Op::LdqL, at),
+            Op::StqC => self.ask::<M, (L, StqC)>(setting, prepared, thread, memory, Op::StqC, at),
+            Op::LdqU => self.ask::<M, (L, LdqU)>(setting, prepared, thread, memory, Op::LdqU, at),
+            Op::Ldbu => self.ask::<M, (L, Ldbu)>(setting, prepared, thread, memory, Op::Ldbu, at),
+            Op::Stb => self.ask::<M, (L, Stb)>(setting, prepared, thread, memory, Op::Stb, at),
+            _ => self.ask::<M, L>(setting, prepared, thread, memory, op, at),
         }
     }
 
     // The same, where the word is that access: by its registers and displacement.
     #[inline(always)]
-    fn ask<M: Memory>(
+    fn ask<M: Memory, L>(
         &mut self,
         setting: Setting<'_>,
         prepared: &Prepared<'_>,
         thread: u8,
         memory: &mut M,
-        op: MemoryOp,
+        op: Op,
         place: (u8, u8, i16),
     ) -> Option<Turn>
         requires ra { place.0 < 32 }
@@ -105,7 +120,8 @@ impl Course {
         ensures read { KeepsRead (M.between memory.old) (M.seen memory.old) (M.seen memory.new) }
         ensures allowed { CountsPuts (M.set_up memory.old).limit → result ≢ Some Turn.Ended }
     {
-        let Some(asked) = prepared.asked_by(&self.cpu, op, place.0, place.1, place.2) else {
+        let Some(asked) = prepared.asked_by::<(M, L)>(&self.cpu, op, place.0, place.1, place.2)
+        else {
             return None;
         };
         let request = request_by(setting, thread, self.retired, asked.access);
@@ -151,7 +167,7 @@ impl Processor {
         let Some(mut course) = self.running() else {
             return None;
         };
-        let turn = course.access(setting, prepared, self.thread, memory)?;
+        let turn = course.access::<M, Stepping>(setting, prepared, self.thread, memory)?;
         match turn {
             Turn::Went => self.settle(&course, 1),
             Turn::Ended => self.spend(),

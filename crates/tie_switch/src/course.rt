@@ -1,5 +1,5 @@
 // Local steps, one after the other.
-ghost use Rattle.std.specs.Prelude.{◌≡◌, ◌<◌, ◌≤◌, ◌+◌, ◌^◌, ℕ, slice_index, true, false, [], Some, None, IfErr, IfOk, IsErr};
+ghost use Rattle.std.specs.Prelude.{◌≡◌, ◌<◌, ◌≤◌, ◌+◌, ◌^◌, ℕ, List, slice_index, true, false, [], Some, None, IfErr, IfOk, IsErr};
 ghost use Rattle.alpha_machine.specs.Step.{state_of};
 ghost use Rattle.alpha_meaning.specs.State.{at_place};
 ghost use Rattle.prepared_code.specs.Effects.{behind};
@@ -8,7 +8,8 @@ ghost use Rattle.prepared_code.specs.Probes.{passes};
 ghost use Rattle.exception_records.specs.Shown.{still_held};
 ghost use Rattle.image_meaning.specs.Meant.{codes_written};
 ghost use Rattle.tie_switch.specs.Courses.{Goes, HasOpcode, HoldsNone, boundary_by, landed_there};
-ghost use Rattle.tie_switch.specs.Glides.{IsGlide, IsGlideOn, is_plain, may_glide};
+ghost use Rattle.tie_switch.specs.Glides.{IsGlide, IsGlideOn, is_plain, row_behind};
+ghost use Rattle.system_model.specs.declared.translation.Range as model;
 ghost use Rattle.tie_switch.specs.Inside.{block_rules, goes_on_locally};
 ghost use Rattle.tie_switch.specs.Settings.{image_setting};
 ghost use Rattle.vax_form.specs.Pages.{code_byte_at};
@@ -19,9 +20,12 @@ use crate::laws::{landings_are_turns, probes_are_turns, steps_are_turns};
 use crate::setting::codes_by;
 use alpha_machine::Cpu;
 use exception_records::{Rules, still_held};
-use prepared_code::{Block, Landing, Prepared};
+use prepared_code::{Block, Gliding, Landing, Prepared, Stepping};
 use system_model::{Range, shown, word_for};
 use vax_form::{Flags, Pages, VaxState};
+
+/// At that many landings in a row at which something is guessed a course glides.
+const MOST_IN_A_ROW: u64 = 2;
 
 /// Where the processor landed: its registers there, and the block.
 #[derive(Clone, Copy)]
@@ -99,7 +103,8 @@ impl Course {
     {
         match &mut self.landed {
             Some(landed) => {
-                landed.cpu = self.cpu;
+                landed.cpu.r = self.cpu.r;
+                landed.cpu.pc = self.cpu.pc;
                 landed.block = block;
             }
             None => {
@@ -188,21 +193,17 @@ impl Course {
 
     // Makes a probe that goes on inside its block.
     #[inline(always)]
-    fn probe(
-        &mut self,
-        prepared: &Prepared<'_>,
-        ranges: &[Range],
-        thread: u8,
-        before: &VaxState,
-    ) -> bool
+    fn probe<L>(&mut self, prepared: &Prepared<'_>) -> bool
         ensures just { result ≡ passes prepared.now (state_of self.old.cpu) }
         ensures landed { self.new.landed ≡ self.old.landed }
+        ensures held { self.new.held ≡ self.old.held }
         ensures retired { self.new.retired ≡ self.old.retired }
-        ensures passes { result ≡ true → Goes (image_setting prepared.now.pages prepared.now.code ranges.now) thread before.now self.old self.new 1 }
+        ensures passes { result ≡ true → (ranges : List model.Range) (thread : ℕ) (before : VaxState)
+            → Goes (image_setting prepared.now.pages prepared.now.code ranges) thread before self.old self.new 1 }
         ensures stays { result ≡ false → self.new ≡ self.old }
     {
         probes_are_turns();
-        if prepared.passes(&self.cpu) {
+        if prepared.passes::<L>(&self.cpu) {
             self.cpu.pc += 1;
             return true;
         }
@@ -230,12 +231,11 @@ impl Course {
         ensures probes { result ≡ false → passes prepared.now (state_of self.new.cpu) ≡ false }
         ensures stops { result ≡ false → goes_on_locally (image_setting prepared.now.pages prepared.now.code ranges.now) thread (state_of self.new.cpu) ≡ false }
     {
-        self.probe(prepared, ranges, thread, before)
-            || self.land_at_once(prepared, ranges, thread, before)
+        self.probe::<Stepping>(prepared) || self.land_at_once(prepared, ranges, thread, before)
     }
 
     // Makes steps inside a block and the one that leads to the next, or a probe. Tells how many, and whether it goes on.
-    #[inline(always)]
+    #[inline(never)]
     fn cross(
         &mut self,
         prepared: &Prepared<'_>,
@@ -276,10 +276,12 @@ impl Course {
 
     // It landed at the block that begins there.
     #[inline(always)]
-    fn note_there(&mut self, prepared: &Prepared<'_>)
-        ensures { self.new ≡ record self.old { landed = landed_there prepared.now self.old.cpu self.old.landed } }
+    fn note_there<L>(&mut self, prepared: &Prepared<'_>)
+        requires opcode { HasOpcode prepared.now.pages self.old.landed }
+        ensures is { self.new ≡ record self.old { landed = landed_there prepared.now self.old.cpu self.old.landed } }
+        ensures opcode { HasOpcode prepared.now.pages self.new.landed }
     {
-        if let Some(block) = prepared.block_at(self.cpu.pc) {
+        if let Some(block) = prepared.block_at::<L>(self.cpu.pc) {
             self.note(block);
         }
     }
@@ -298,6 +300,7 @@ impl Course {
             → Goes (image_setting prepared.now.pages prepared.now.code []) thread before self.old self.new steps) }
         ensures retired { IfOk result (λ steps. self.new.retired ≤ self.old.retired + steps) }
         ensures stays { IsErr result → self.new ≡ self.old }
+        ensures held { self.new.held ≡ self.old.held }
         ensures few { IfErr result (λ steps. steps < most) }
     {
         steps_are_turns();
@@ -309,7 +312,7 @@ impl Course {
             if within == 0 || within > most - made {
                 break;
             }
-            let Some(steps) = prepared.cross(&mut self.cpu, within) else {
+            let Ok(steps) = prepared.cross::<Gliding>(&mut self.cpu, within) else {
                 self.cpu = start;
                 return Err(made);
             };
@@ -317,44 +320,149 @@ impl Course {
             crossed += 1;
         }
         if made > 0 {
-            self.note_there(prepared);
+            self.note_there::<Gliding>(prepared);
         }
         self.retired += crossed;
         Ok(made)
     }
 
-    // Makes steps as `glide` does, where it is plain and not watched. Tells how many, and for how many it is to be watched then.
+    // How many steps it makes as `glide` does; none where it stays.
     #[inline(always)]
-    fn glide_on(
-        &mut self,
-        prepared: &Prepared<'_>,
-        ranges: &[Range],
-        most: u64,
-        is_watched: bool,
-    ) -> (u64, u64)
+    fn glide_on(&mut self, prepared: &Prepared<'_>, most: u64) -> u64
+        requires plain { HoldsNone self.old.held }
         requires room { self.old.retired + most < 2 ^ 64 }
         requires opcode { HasOpcode prepared.now.pages self.old.landed }
         ensures opcode { HasOpcode prepared.now.pages self.new.landed }
-        ensures glides { may_glide prepared.now.code ranges.now self.old.held self.old.cpu is_watched ≡ true → IsGlideOn prepared.now.code most self.old.cpu self.new.cpu result }
-        ensures stays { may_glide prepared.now.code ranges.now self.old.held self.old.cpu is_watched ≡ false → (result ≡ (0, 0)) × (self.new ≡ self.old) }
+        ensures held { self.new.held ≡ self.old.held }
+        ensures glides { IsGlideOn prepared.now.code most self.old.cpu self.new.cpu result }
+        ensures most { result ≤ most }
+        ensures goes { (thread : ℕ) (before : VaxState) → before.pending ≡ Nothing
+            → Goes (image_setting prepared.now.pages prepared.now.code []) thread before self.old self.new result }
+        ensures retired { self.new.retired ≤ self.old.retired + result }
+    {
+        match self.glide(prepared, most) {
+            Ok(steps) => steps,
+            Err(_) => 0,
+        }
+    }
+
+    // How many landings in a row something is guessed at, where it landed once more.
+    #[inline(always)]
+    fn guessed_in_a_row(&self, prepared: &Prepared<'_>, before: u64) -> u64
+        requires { before < MOST_IN_A_ROW }
+        ensures { result ≡ row_behind prepared.now.code self.now.cpu before }
+    {
+        if prepared.guess(self.cpu.pc) == 0 {
+            0
+        } else {
+            before + 1
+        }
+    }
+
+    // Goes through a block and keeps where it landed, or makes steps inside one and the probe behind them. Tells how many, at
+    // how many landings in a row something is guessed then, and whether there is neither.
+    #[inline(always)]
+    fn keep_one<L>(&mut self, prepared: &Prepared<'_>, most: u64, row: u64) -> (u64, u64, bool)
+        requires plain { HoldsNone self.old.held }
+        requires room { self.old.retired + most < 2 ^ 64 }
+        requires opcode { HasOpcode prepared.now.pages self.old.landed }
+        requires some { 0 < most }
+        requires row { row < MOST_IN_A_ROW }
+        ensures opcode { HasOpcode prepared.now.pages self.new.landed }
+        ensures held { self.new.held ≡ self.old.held }
+        ensures most { result.0 ≤ most }
+        ensures row { result.1 ≤ MOST_IN_A_ROW }
+        ensures some { result.2 ≡ false → 0 < result.0 }
+        ensures goes { (thread : ℕ) (before : VaxState) → before.pending ≡ Nothing
+            → Goes (image_setting prepared.now.pages prepared.now.code []) thread before self.old self.new result.0 }
+        ensures retired { self.new.retired ≤ self.old.retired + result.0 }
+        ensures inside { result.2 ≡ true → step_in prepared.now.code (state_of self.new.cpu) ≡ None }
+        ensures probes { result.2 ≡ true → passes prepared.now (state_of self.new.cpu) ≡ false }
+    {
+        steps_are_turns();
+        landings_are_turns();
+        match prepared.cross::<L>(&mut self.cpu, most) {
+            Ok(steps) => {
+                self.note_there::<L>(prepared);
+                self.retired += 1;
+                (steps, self.guessed_in_a_row(prepared, row), false)
+            }
+            Err(steps) => {
+                if steps == most {
+                    (steps, row, false)
+                } else if self.probe::<L>(prepared) {
+                    (steps + 1, row, false)
+                } else {
+                    (steps, row, true)
+                }
+            }
+        }
+    }
+
+    // Makes steps and probes, and keeps each landing, up to the last of some in a row at which something is guessed. Tells how
+    // many, and whether it ends before where there is none.
+    #[inline(always)]
+    fn keep<L>(&mut self, prepared: &Prepared<'_>, most: u64) -> (u64, bool)
+        requires plain { HoldsNone self.old.held }
+        requires room { self.old.retired + most < 2 ^ 64 }
+        requires opcode { HasOpcode prepared.now.pages self.old.landed }
+        ensures opcode { HasOpcode prepared.now.pages self.new.landed }
+        ensures held { self.new.held ≡ self.old.held }
+        ensures most { result.0 ≤ most }
+        ensures some { 0 < most → result.1 ≡ false → 0 < result.0 }
+        ensures goes { (thread : ℕ) (before : VaxState) → before.pending ≡ Nothing
+            → Goes (image_setting prepared.now.pages prepared.now.code []) thread before self.old self.new result.0 }
+        ensures retired { self.new.retired ≤ self.old.retired + result.0 }
+        ensures inside { result.1 ≡ true → step_in prepared.now.code (state_of self.new.cpu) ≡ None }
+        ensures probes { result.1 ≡ true → passes prepared.now (state_of self.new.cpu) ≡ false }
+    {
+        let (mut made, mut row) = (0, 0);
+        while made < most {
+            let (steps, next, rests) = self.keep_one::<L>(prepared, most - made, row);
+            made += steps;
+            if rests {
+                return (made, true);
+            }
+            if next == MOST_IN_A_ROW {
+                return (made, false);
+            }
+            row = next;
+        }
+        (made, false)
+    }
+
+    // Makes steps and probes where it is plain, block after block. Tells how many, and whether it ends at an access or a call.
+    #[inline(always)]
+    fn run_plain<L>(&mut self, prepared: &Prepared<'_>, ranges: &[Range], most: u64) -> (u64, bool)
+        requires room { self.old.retired + most < 2 ^ 64 }
+        requires opcode { HasOpcode prepared.now.pages self.old.landed }
+        ensures opcode { HasOpcode prepared.now.pages self.new.landed }
         ensures most { result.0 ≤ most }
         ensures goes { (thread : ℕ) (before : VaxState) → before.pending ≡ Nothing
             → Goes (image_setting prepared.now.pages prepared.now.code ranges.now) thread before self.old self.new result.0 }
         ensures retired { self.new.retired ≤ self.old.retired + result.0 }
+        ensures probes { result.1 ≡ true → passes prepared.now (state_of self.new.cpu) ≡ false }
+        ensures stops { result.1 ≡ true → (thread : ℕ) → goes_on_locally (image_setting prepared.now.pages prepared.now.code ranges.now) thread (state_of self.new.cpu) ≡ false }
     {
-        if prepared.guess(self.cpu.pc) == 0 || is_watched || !self.is_plain(ranges) {
-            return (0, 0);
+        if !self.is_plain(ranges) {
+            return (0, false);
         }
-        match self.glide(prepared, most) {
-            Ok(steps) => (steps, 0),
-            Err(steps) => (0, steps + 1),
+        let mut made = 0;
+        while made < most {
+            let (steps, rests) = self.keep::<L>(prepared, most - made);
+            made += steps;
+            if rests {
+                return (made, prepared.stops_at(&self.cpu));
+            }
+            made += self.glide_on(prepared, most - made);
         }
+        (made, false)
     }
 
     /// Makes local steps and probes, inside blocks and from block to block, and tells how many: at most so many, and only
     /// those behind which the thread goes on in Alpha code. Fewer are made only where the next is neither.
     #[inline(always)]
-    pub(crate) fn run(
+    pub(crate) fn run<L>(
         &mut self,
         prepared: &Prepared<'_>,
         ranges: &[Range],
@@ -372,11 +480,13 @@ impl Course {
         ensures probes { result < most → passes prepared.now (state_of self.new.cpu) ≡ false }
         ensures stops { result < most → goes_on_locally (image_setting prepared.now.pages prepared.now.code ranges.now) thread (state_of self.new.cpu) ≡ false }
     {
-        let (mut made, mut watched) = (0, 0);
+        let mut made = 0;
         while made < most {
-            let (steps, more) = self.glide_on(prepared, ranges, most - made, made < watched);
+            let (steps, is_over) = self.run_plain::<L>(prepared, ranges, most - made);
             made += steps;
-            watched = watched.max(made.saturating_add(more));
+            if is_over {
+                return made;
+            }
             let (steps, goes_on) = self.cross(prepared, ranges, thread, before, most - made);
             made += steps;
             if !goes_on {

@@ -23,7 +23,7 @@ use crate::turn::Turn;
 use alpha_machine::Cpu;
 use image_file::Image;
 use memory_core::Memory;
-use prepared_code::Prepared;
+use prepared_code::{Prepared, Stepping};
 use system_model::{Range, Translation, word_for};
 use vax_form::{Instr, Pending};
 
@@ -116,7 +116,7 @@ impl Processor {
             return 0;
         };
         let most = most.min(self.budget - self.steps);
-        let made = course.run(prepared, ranges, self.thread, &self.boundary, most);
+        let made = course.run::<Stepping>(prepared, ranges, self.thread, &self.boundary, most);
         if made > 0 {
             self.settle(&course, made);
         }

@@ -21,7 +21,7 @@ use crate::processor::{Mode, Processor};
 use crate::setting::Setting;
 use crate::turn::Turn;
 use memory_core::Memory;
-use prepared_code::Prepared;
+use prepared_code::{Keeping, Prepared};
 use vax_form::Pending;
 
 impl Processor {
@@ -89,13 +89,14 @@ impl Processor {
             (result.0 + 1) (spent (course_of self.now.thread self.now.boundary self.now.interpreted course.new (self.now.steps + result.0))) (M.seen memory.new) }
     {
         let (ranges, thread, before) = (setting.ranges, self.thread, &self.boundary);
-        let mut made = course.run(prepared, ranges, thread, before, most);
+        let mut made = 0;
         while made < most {
-            match course.access(setting, prepared, thread, memory) {
-                Some(Turn::Went) => {
-                    made += 1;
-                    made += course.run(prepared, ranges, thread, before, most - made);
-                }
+            made += course.run::<(M, Keeping)>(prepared, ranges, thread, before, most - made);
+            if made == most {
+                return (made, Turn::Went);
+            }
+            match course.access::<M, Keeping>(setting, prepared, thread, memory) {
+                Some(Turn::Went) => made += 1,
                 Some(Turn::Ended) => return (made, Turn::Ended),
                 None => return (made, Turn::Went),
             }

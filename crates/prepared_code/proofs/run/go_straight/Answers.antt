@@ -7,7 +7,7 @@ use Rattle.prepared_code.proofs.Steps.{one_more_straight}
 use Rattle.prepared_code.proofs.run.go_straight.Goals as goal
 
 pub loop-made-preserved : goal.loop-made-preserved
-loop-made-preserved c = record {
+loop-made-preserved g c = record {
   zero = c.operate.ensures.zero;
   pc = ap (λ (s : Alpha). s.pc) c.operate.ensures.is ∙ c.loop-made.invariant.pc;
   ran = λ code are.

@@ -8,7 +8,7 @@ use Rattle.prepared_code.specs.Inside.{steps_in}
 use Rattle.prepared_code.proofs.run.go_straight.Given as goal
 
 abbrev pub invariant-loop-made : goal.invariant-loop-made
-invariant-loop-made l = record {
+invariant-loop-made g l = record {
   zero : slice_index l.cpu.r 31 ≡ 0;
   pc : l.cpu.pc ≡ l.initial.cpu.pc;
   ran : (code : Code) → AreStraight code l.flats l.initial.cpu.pc l.count

@@ -7,7 +7,7 @@ use Rattle.prepared_code.proofs.Words.{begun_is}
 use Rattle.prepared_code.proofs.prepared.Prepared.block_at.Goals as goal
 
 pub returns-in-Some : goal.returns-in-Some
-returns-in-Some c =
+returns-in-Some g c =
     let number = c.in-Some.word.block in
     c.begun.ensures
     ∙ ap (λ (blocks : List Block). begun blocks number) (c.deref.ensures.value ∙ c.self.invariant.blocks)

@@ -8,7 +8,7 @@ use Rattle.prepared_code.proofs.Landed.{has_address}
 use Rattle.prepared_code.proofs.prepared.Prepared.fork_over.Goals as goal
 
 pub returns-then-begins-clause-is : goal.returns-then-begins-clause-is
-returns-then-begins-clause-is c =
+returns-then-begins-clause-is g c =
     let code = c.args.self.now.code in
     let begun : is_some (address_at code.map c.way_out-cpu.result) ≡ true = sym c.begins.ensures ∙ c.if-begins.true in
     let block = has_address code.map c.way_out-cpu.result c.requires.rise begun in
@@ -20,7 +20,7 @@ returns-then-begins-clause-is c =
     }
 
 pub returns-else-begins-clause-is : goal.returns-else-begins-clause-is
-returns-else-begins-clause-is c =
+returns-else-begins-clause-is g c =
     let code = c.args.self.now.code in
     let none : is_some (address_at code.map c.way_out-cpu.result) ≡ false = sym c.begins.ensures ∙ c.if-begins.false in (
       omega arith,

@@ -5,7 +5,7 @@ use Rattle.tie_switch.specs.Settings.{image_setting}
 use Rattle.tie_switch.proofs.course.Course.run.Given as goal
 
 abbrev pub invariant-loop-made : goal.invariant-loop-made
-invariant-loop-made l = record {
+invariant-loop-made g l = record {
   most : l.made ≤ l.most;
   goes : Goes (image_setting l.prepared.pages l.prepared.code l.ranges) l.thread l.before l.initial.self l.self l.made;
   opcode : HasOpcode l.prepared.pages l.self.landed;
@@ -13,4 +13,4 @@ invariant-loop-made l = record {
 }
 
 abbrev pub decreases-loop-made : goal.decreases-loop-made
-decreases-loop-made l = l.most - l.made
+decreases-loop-made g l = l.most - l.made

@@ -1,10 +1,6 @@
 -- The turns so far, and the memory that they lead to.
-use Rattle.std.proofs.Common.{◌≡◌, ℕ, false, ◌<◌, ◌≤◌, ◌+◌, ◌-◌, ◌↔◌}
-use Rattle.alpha_machine.specs.Step.{state_of}
-use Rattle.prepared_code.specs.Probes.{passes}
+use Rattle.std.proofs.Common.{◌≡◌, ℕ, ◌≤◌, ◌+◌, ◌-◌, ◌↔◌}
 use Rattle.tie_switch.specs.Courses.{HasOpcode}
-use Rattle.tie_switch.specs.Inside.{goes_on_locally}
-use Rattle.tie_switch.specs.Settings.{image_setting}
 use Rattle.tie_switch.specs.Live.{KeepsRead}
 use Rattle.tie_switch.specs.ManyTurns.{IsBehind, MayCome}
 use Rattle.tie_switch.specs.Seen.{setting_of}
@@ -18,7 +14,6 @@ invariant-loop-made g l = record {
   behind : IsBehind g.M.Memory.same l.fn.memory l.memory;
   serves : (thread : ℕ) → g.M.Memory.serves l.fn.memory thread ↔ g.M.Memory.serves l.memory thread;
   read : KeepsRead (MayCome g.M.Memory.same g.M.Memory.between l.fn.memory) (g.M.Memory.seen l.fn.memory) (g.M.Memory.seen l.memory);
-  rests : l.made < l.most → (goes_on_locally (image_setting l.prepared.pages l.prepared.code l.setting.ranges.now) l.self.thread (state_of l.course.cpu) ≡ false) × (passes l.prepared (state_of l.course.cpu) ≡ false);
   opcode : HasOpcode l.prepared.pages l.course.landed;
   retired : l.course.retired ≤ l.fn.course.retired + l.made;
   came : Came (setting_of l.setting) (g.M.Memory.set_up l.fn.memory) (MayCome g.M.Memory.same g.M.Memory.between l.fn.memory) l.self (g.M.Memory.seen l.fn.memory) l.made l.course

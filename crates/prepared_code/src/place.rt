@@ -1,0 +1,11 @@
+// Places from which a function is called. One that is generic in its place stands there once, so that the compiler can put it
+// there, however large it is.
+
+/// Where steps are made inside one block.
+pub struct Stepping;
+
+/// Where blocks of local steps are gone through with no look back.
+pub struct Gliding;
+
+/// Where each landing is kept.
+pub struct Keeping;

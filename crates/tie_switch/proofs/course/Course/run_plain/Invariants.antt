@@ -1,0 +1,19 @@
+-- The steps so far; each round makes one.
+use Rattle.std.proofs.Common.{◌≡◌, ℕ, ◌≤◌, ◌-◌, ◌+◌, []}
+use Rattle.tie_switch.specs.Courses.{Goes, HasOpcode, HoldsNone}
+use Rattle.tie_switch.specs.Settings.{image_setting}
+use Rattle.vax_form.specs.declared.state.Pending.TheVariants.{Nothing}
+use Rattle.vax_form.specs.declared.state.VaxState.{VaxState}
+use Rattle.tie_switch.proofs.course.Course.run_plain.Given as goal
+
+abbrev pub invariant-loop-made : goal.invariant-loop-made
+invariant-loop-made g l = record {
+  most : l.made ≤ l.most;
+  plain : (l.ranges ≡ []) × HoldsNone l.self.held;
+  opcode : HasOpcode l.prepared.pages l.self.landed;
+  retired : l.self.retired ≤ l.initial.self.retired + l.made;
+  goes : (thread : ℕ) (before : VaxState) → before.pending ≡ Nothing → Goes (image_setting l.prepared.pages l.prepared.code l.ranges) thread before l.initial.self l.self l.made;
+}
+
+abbrev pub decreases-loop-made : goal.decreases-loop-made
+decreases-loop-made g l = l.most - l.made
