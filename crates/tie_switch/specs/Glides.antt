@@ -1,5 +1,5 @@
 -- Blocks of local steps that a course runs through with no look back.
-use Rattle.std.specs.Prelude.{◌≡◌, ℕ, ◌+◌, ◌-◌, ◌==◌, ◌&&◌, ◌||◌, Bool, true, false, not, nat_le, if◌then◌else◌, List, length, Result, Ok, Err}
+use Rattle.std.specs.Prelude.{◌≡◌, ℕ, ◌+◌, ◌-◌, ◌==◌, ◌&&◌, ◌||◌, Bool, true, false, not, nat_le, List, length, Result, Ok, Err}
 use Rattle.alpha_machine.specs.Step.{state_of}
 use Rattle.alpha_machine.specs.declared.cpu.Cpu.{Cpu}
 use Rattle.block_law.specs.Translations.{Code}
@@ -46,8 +46,3 @@ glided_on (Err made) = 0
 
 abbrev pub IsGlideOn : Code → (most : ℕ) → (old new : Cpu) → ℕ → Type 0
 IsGlideOn code most old new told = (r : Result ℕ ℕ) × IsGlide code most old new r × (told ≡ glided_on r)
-
--- ---- landings that are kept
--- how many in a row something is guessed at, with the one there
-abbrev pub row_behind : Code → Cpu → (before : ℕ) → ℕ
-row_behind code cpu before = if guess code cpu.pc == 0 then 0 else before + 1

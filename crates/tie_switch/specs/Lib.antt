@@ -8,6 +8,7 @@ pub mod Turns
 pub mod Inside
 pub mod Courses
 pub mod Glides
+pub mod Keeps
 pub mod ManyTurns
 pub mod Live
 pub mod Laws

@@ -8,7 +8,8 @@ ghost use Rattle.prepared_code.specs.Probes.{passes};
 ghost use Rattle.exception_records.specs.Shown.{still_held};
 ghost use Rattle.image_meaning.specs.Meant.{codes_written};
 ghost use Rattle.tie_switch.specs.Courses.{Goes, HasOpcode, HoldsNone, boundary_by, landed_there};
-ghost use Rattle.tie_switch.specs.Glides.{IsGlide, IsGlideOn, is_plain, row_behind};
+ghost use Rattle.tie_switch.specs.Glides.{IsGlide, IsGlideOn, is_plain};
+ghost use Rattle.tie_switch.specs.Keeps.{IsKeep, IsKept, IsPlainRun, row_behind};
 ghost use Rattle.system_model.specs.declared.translation.Range as model;
 ghost use Rattle.tie_switch.specs.Inside.{block_rules, goes_on_locally};
 ghost use Rattle.tie_switch.specs.Settings.{image_setting};
@@ -195,6 +196,7 @@ impl Course {
     #[inline(always)]
     fn probe<L>(&mut self, prepared: &Prepared<'_>) -> bool
         ensures just { result ≡ passes prepared.now (state_of self.old.cpu) }
+        ensures there { result ≡ true → self.new.cpu ≡ record self.old.cpu { pc = self.old.cpu.pc + 1 } }
         ensures landed { self.new.landed ≡ self.old.landed }
         ensures held { self.new.held ≡ self.old.held }
         ensures retired { self.new.retired ≡ self.old.retired }
@@ -372,6 +374,7 @@ impl Course {
         ensures held { self.new.held ≡ self.old.held }
         ensures most { result.0 ≤ most }
         ensures row { result.1 ≤ MOST_IN_A_ROW }
+        ensures keeps { IsKept prepared.now most row self.old.cpu self.new.cpu result }
         ensures some { result.2 ≡ false → 0 < result.0 }
         ensures goes { (thread : ℕ) (before : VaxState) → before.pending ≡ Nothing
             → Goes (image_setting prepared.now.pages prepared.now.code []) thread before self.old self.new result.0 }
@@ -410,6 +413,7 @@ impl Course {
         ensures held { self.new.held ≡ self.old.held }
         ensures most { result.0 ≤ most }
         ensures some { 0 < most → result.1 ≡ false → 0 < result.0 }
+        ensures keeps { IsKeep prepared.now most self.old.cpu self.new.cpu result }
         ensures goes { (thread : ℕ) (before : VaxState) → before.pending ≡ Nothing
             → Goes (image_setting prepared.now.pages prepared.now.code []) thread before self.old self.new result.0 }
         ensures retired { self.new.retired ≤ self.old.retired + result.0 }
@@ -438,6 +442,8 @@ impl Course {
         requires opcode { HasOpcode prepared.now.pages self.old.landed }
         ensures opcode { HasOpcode prepared.now.pages self.new.landed }
         ensures most { result.0 ≤ most }
+        ensures runs { is_plain ranges.now self.old.held ≡ true → IsPlainRun prepared.now most self.old.cpu self.new.cpu result }
+        ensures stays { is_plain ranges.now self.old.held ≡ false → (result ≡ (0, false)) × (self.new ≡ self.old) }
         ensures goes { (thread : ℕ) (before : VaxState) → before.pending ≡ Nothing
             → Goes (image_setting prepared.now.pages prepared.now.code ranges.now) thread before self.old self.new result.0 }
         ensures retired { self.new.retired ≤ self.old.retired + result.0 }

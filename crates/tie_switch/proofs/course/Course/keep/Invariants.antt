@@ -1,6 +1,7 @@
 -- The landings so far; each round makes a step.
 use Rattle.std.proofs.Common.{◌≡◌, ℕ, ◌<◌, ◌≤◌, ◌-◌, ◌+◌, []}
 use Rattle.tie_switch.specs.Courses.{Goes, HasOpcode}
+use Rattle.tie_switch.specs.Keeps.{Rounds}
 use Rattle.tie_switch.specs.Settings.{image_setting}
 use Rattle.tie_switch.specs.declared.course.TheConstants.{MOST_IN_A_ROW}
 use Rattle.vax_form.specs.declared.state.Pending.TheVariants.{Nothing}
@@ -11,6 +12,7 @@ abbrev pub invariant-loop-made : goal.invariant-loop-made
 invariant-loop-made g l = record {
   most : l.made ≤ l.most;
   row : l.row < MOST_IN_A_ROW;
+  rounds : Rounds l.prepared l.most l.initial.self.cpu l.self.cpu l.made l.row;
   held : l.self.held ≡ l.initial.self.held;
   opcode : HasOpcode l.prepared.pages l.self.landed;
   retired : l.self.retired ≤ l.initial.self.retired + l.made;

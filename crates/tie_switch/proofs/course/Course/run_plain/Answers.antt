@@ -1,7 +1,8 @@
 -- Blocks that are kept, and such as are run through with no look back.
-use Rattle.std.proofs.Common.{◌+◌, sym, ◌∙◌, subst, arith}
+use Rattle.std.proofs.Common.{◌-◌, ◌+◌, sym, ◌∙◌, subst, arith}
 use Rattle.alpha_machine.specs.Step.{state_of}
 use Rattle.tie_switch.specs.Courses.{Goes, HoldsNone}
+use Rattle.tie_switch.specs.Keeps.{AllMade, IsKeep, IsPlainRun, NoMore, NoRun, OneMore}
 use Rattle.tie_switch.specs.Settings.{image_setting}
 use Rattle.tie_switch.proofs.Courses.{goes_more, goes_nowhere}
 use Rattle.tie_switch.proofs.Stopping.{stuck}
@@ -13,6 +14,7 @@ loop-made-init g c =
     record {
       most = omega arith;
       plain = c.is_plain.ensures.plain c.if-not-is_plain.false;
+      runs = NoRun;
       opcode = c.requires.opcode;
       retired = omega arith;
       goes = λ thread before nothing. goes_nowhere (image_setting p.pages p.code c.args.ranges.now) thread before c.args.self.now;
@@ -30,6 +32,8 @@ loop-made-preserved g c =
     record {
       most = omega (arith, l.invariant.most, kept.ensures.most, glided.ensures.most);
       plain = (plain.0, subst HoldsNone (sym held) plain.1);
+      runs =
+          OneMore l.invariant.runs c.loop-made-test.true (subst (λ b. IsKeep p (c.args.most - l.made) l.self.cpu kept.new.self.cpu (kept.result.0, b)) c.if-rests.false kept.ensures.keeps) glided.ensures.glides;
       opcode = glided.ensures.opcode;
       retired = omega (arith, l.invariant.retired, kept.ensures.retired, glided.ensures.retired);
       goes = λ thread before nothing.
@@ -55,3 +59,14 @@ returns-then-rests-clause-stops g c = λ over thread.
 
 pub glide_on-made-requires-clause-plain : goal.glide_on-made-requires-clause-plain
 glide_on-made-requires-clause-plain g c = subst HoldsNone (sym c.keep-steps.ensures.held) c.loop-made.invariant.plain.1
+
+pub returns-then-rests-clause-runs : goal.returns-then-rests-clause-runs
+returns-then-rests-clause-runs g c = λ plain.
+    let p = c.args.prepared.now in
+    let l = c.loop-made in
+    let kept = c.keep-steps in
+    subst (λ b. IsPlainRun p c.args.most c.args.self.now.cpu kept.new.self.cpu (l.made + kept.result.0, b)) (sym c.stops_at.ensures.just)
+    (NoMore l.invariant.runs c.loop-made-test.true (subst (λ b. IsKeep p (c.args.most - l.made) l.self.cpu kept.new.self.cpu (kept.result.0, b)) c.if-rests.true kept.ensures.keeps))
+
+pub returns-clause-runs : goal.returns-clause-runs
+returns-clause-runs g c = λ plain. AllMade c.loop-made.invariant.runs (omega (arith, c.loop-made-test.false))

@@ -1,6 +1,7 @@
 -- The steps so far; each round makes one.
 use Rattle.std.proofs.Common.{◌≡◌, ℕ, ◌≤◌, ◌-◌, ◌+◌, []}
 use Rattle.tie_switch.specs.Courses.{Goes, HasOpcode, HoldsNone}
+use Rattle.tie_switch.specs.Keeps.{Runs}
 use Rattle.tie_switch.specs.Settings.{image_setting}
 use Rattle.vax_form.specs.declared.state.Pending.TheVariants.{Nothing}
 use Rattle.vax_form.specs.declared.state.VaxState.{VaxState}
@@ -10,6 +11,7 @@ abbrev pub invariant-loop-made : goal.invariant-loop-made
 invariant-loop-made g l = record {
   most : l.made ≤ l.most;
   plain : (l.ranges ≡ []) × HoldsNone l.self.held;
+  runs : Runs l.prepared l.most l.initial.self.cpu l.self.cpu l.made;
   opcode : HasOpcode l.prepared.pages l.self.landed;
   retired : l.self.retired ≤ l.initial.self.retired + l.made;
   goes : (thread : ℕ) (before : VaxState) → before.pending ≡ Nothing → Goes (image_setting l.prepared.pages l.prepared.code l.ranges) thread before l.initial.self l.self l.made;
