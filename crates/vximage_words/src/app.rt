@@ -74,11 +74,12 @@ const KINDS: &[&str] = &["procedures", "routines", "none"];
 
 /// An option of a command.
 struct Choice {
+    command: &'static str,
     label: &'static str,
     help: &'static str,
     action: ArgAction,
     /// What stands for its value in the help, where it takes one.
-    value: &'static [&'static str],
+    value: &'static str,
     parser: ValueParser<'static>,
     /// It has to be there where none of these is.
     unless: &'static [&'static str],
@@ -88,154 +89,146 @@ struct Choice {
     without: &'static [&'static str],
 }
 
-/// An option that stands once at most, and goes with all others.
-const OPTION: Choice = Choice {
+/// An option of `make` that stands once at most, and goes with all others.
+const MAKE: Choice = Choice {
+    command: "make",
     label: "",
     help: "",
     action: ArgAction::Set,
-    value: &[],
+    value: "",
     parser: ValueParser::String,
     unless: &[],
     beside: &[],
     without: &[],
 };
 
-const MAKE_OPTIONS: &[Choice] = &[
+/// The same of `dis`.
+const DIS: Choice = Choice {
+    command: "dis",
+    ..MAKE
+};
+
+const OPTIONS: &[Choice] = &[
     Choice {
         label: "section",
         help: SECTION_HELP,
         action: ArgAction::Append,
-        value: &["A:r|w:SIZE[:FILE]"],
+        value: "A:r|w:SIZE[:FILE]",
         unless: ELF,
-        ..OPTION
+        ..MAKE
     },
     Choice {
         label: "thread",
         help: THREAD_HELP,
         action: ArgAction::Append,
-        value: &["PC:SP[:Rn=X,..]"],
+        value: "PC:SP[:Rn=X,..]",
         unless: ELF,
-        ..OPTION
+        ..MAKE
     },
     Choice {
         label: "entry",
         help: ENTRY_HELP,
         action: ArgAction::Append,
-        value: &["A"],
-        ..OPTION
+        value: "A",
+        ..MAKE
     },
     Choice {
         label: "entries",
         help: ENTRIES_HELP,
-        value: &["FILE"],
-        ..OPTION
+        value: "FILE",
+        ..MAKE
     },
     Choice {
         label: "elf",
         help: ELF_HELP,
-        value: &["FILE"],
+        value: "FILE",
         without: OF_PARTS,
-        ..OPTION
+        ..MAKE
     },
     Choice {
         label: "start",
         help: START_HELP,
         action: ArgAction::Append,
-        value: &["A"],
+        value: "A",
         beside: ELF,
         without: OF_PARTS,
-        ..OPTION
+        ..MAKE
     },
     Choice {
         label: "stack",
         help: STACK_HELP,
-        value: &["SIZE"],
+        value: "SIZE",
         beside: ELF,
         without: OF_PARTS,
-        ..OPTION
+        ..MAKE
     },
     Choice {
         label: "functions",
         help: FUNCTIONS_HELP,
-        value: &["KIND"],
+        value: "KIND",
         parser: ValueParser::Names(KINDS),
         beside: ELF,
         without: OF_PARTS,
-        ..OPTION
+        ..MAKE
     },
-];
-
-const DIS_OPTIONS: &[Choice] = &[
     Choice {
         label: "alpha",
         help: ALPHA_HELP,
         action: ArgAction::SetTrue,
         parser: ValueParser::Bool,
-        ..OPTION
+        ..DIS
     },
     Choice {
         label: "from",
         help: FROM_HELP,
-        value: &["A"],
-        ..OPTION
+        value: "A",
+        ..DIS
     },
     Choice {
         label: "to",
         help: TO_HELP,
-        value: &["B"],
-        ..OPTION
+        value: "B",
+        ..DIS
     },
     Choice {
         label: "names",
         help: NAMES_HELP,
-        value: &["FILE"],
-        ..OPTION
+        value: "FILE",
+        ..DIS
     },
 ];
-
-/// What is told where help is asked for at length: in place of what the command is about, and behind its options.
-struct AtLength {
-    about: &'static str,
-    behind: &'static str,
-}
 
 /// A command over one file.
 struct Form {
     label: &'static str,
     about: &'static str,
-    at_length: Option<AtLength>,
     file: &'static str,
     file_help: &'static str,
-    options: &'static [Choice],
+    /// Whether more is told where help is asked for at length.
+    has_long_help: bool,
 }
 
 const FORMS: &[Form] = &[
     Form {
         label: "make",
         about: MAKE_ABOUT,
-        at_length: Some(AtLength {
-            about: MAKE_LONG,
-            behind: NOT_TAKEN,
-        }),
         file: "OUT",
         file_help: "The file of the image",
-        options: MAKE_OPTIONS,
+        has_long_help: true,
     },
     Form {
         label: "show",
         about: SHOW_ABOUT,
-        at_length: None,
         file: "NAME",
         file_help: IMAGE_HELP,
-        options: &[],
+        has_long_help: false,
     },
     Form {
         label: "dis",
         about: DIS_ABOUT,
-        at_length: None,
         file: "NAME",
         file_help: IMAGE_HELP,
-        options: DIS_OPTIONS,
+        has_long_help: false,
     },
 ];
 
@@ -245,7 +238,7 @@ fn argument<'a>(alloc: Global, option: &Choice) -> Arg<'a> {
         .long(option.label)
         .help(option.help)
         .action(option.action)
-        .value_names(option.value)
+        .value_name(option.value)
         .value_parser(option.parser)
 }
 
@@ -263,13 +256,32 @@ fn file_argument<'a>(alloc: Global, form: &Form) -> Arg<'a> {
         .help(form.file_help)
 }
 
+// Puts an item behind others, where there is one.
+fn push<T: Drop>(items: &mut Vec<T>, item: Result<T, AllocError>) -> Result<(), AllocError> {
+    items.push(item?)?;
+    Ok(())
+}
+
 // Puts the argument of an option behind others.
 fn push_option<'a>(
     alloc: Global,
     option: &Choice,
     arguments: &mut Vec<Arg<'a>>,
 ) -> Result<(), AllocError> {
-    arguments.push(placed(argument(alloc, option), option)?)?;
+    push(arguments, placed(argument(alloc, option), option))
+}
+
+// Puts the arguments of a command's options behind others.
+fn push_options<'a>(
+    alloc: Global,
+    command: &str,
+    arguments: &mut Vec<Arg<'a>>,
+) -> Result<(), AllocError> {
+    for option in OPTIONS {
+        if option.command == command {
+            push_option(alloc, option, arguments)?;
+        }
+    }
     Ok(())
 }
 
@@ -279,11 +291,8 @@ fn push_arguments<'a>(
     form: &Form,
     arguments: &mut Vec<Arg<'a>>,
 ) -> Result<(), AllocError> {
-    arguments.push(file_argument(alloc, form))?;
-    for option in form.options {
-        push_option(alloc, option, arguments)?;
-    }
-    Ok(())
+    push(arguments, Ok(file_argument(alloc, form)))?;
+    push_options(alloc, form.label, arguments)
 }
 
 // A command with what is told of it, and no argument.
@@ -291,9 +300,10 @@ fn bare_command<'a>(alloc: Global, form: &Form) -> Command<'a> {
     let command = Command::new(alloc, form.label)
         .about(form.about)
         .after_help(NUMBERS);
-    match &form.at_length {
-        Some(told) => command.long_about(told.about).after_long_help(told.behind),
-        None => command,
+    if form.has_long_help {
+        command.long_about(MAKE_LONG).after_long_help(NOT_TAKEN)
+    } else {
+        command
     }
 }
 
@@ -303,20 +313,10 @@ fn command_of<'a>(alloc: Global, form: &Form) -> Result<Command<'a>, AllocError>
     bare_command(alloc, form).args(arguments)
 }
 
-// Puts a command behind others.
-fn push_command<'a>(
-    alloc: Global,
-    form: &Form,
-    commands: &mut Vec<Command<'a>>,
-) -> Result<(), AllocError> {
-    commands.push(command_of(alloc, form)?)?;
-    Ok(())
-}
-
 // Puts all commands behind others.
 fn push_commands<'a>(alloc: Global, commands: &mut Vec<Command<'a>>) -> Result<(), AllocError> {
     for form in FORMS {
-        push_command(alloc, form, commands)?;
+        push(commands, command_of(alloc, form))?;
     }
     Ok(())
 }

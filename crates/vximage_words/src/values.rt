@@ -13,102 +13,134 @@ pub enum ValueFault<'a> {
     WantOfMemory,
 }
 
-fn number_in(text: &str) -> Option<u32> {
-    hexadecimal(text.as_bytes())
+/// What is left of a value, and whether what was taken of it is what its option takes. A piece that is not there is empty.
+#[derive(Clone, Copy)]
+pub struct Pieces<'a> {
+    rest: Option<&'a str>,
+    is_bad: bool,
 }
 
-// Whether the section may be written.
-fn rights_in(text: &str) -> Option<bool> {
-    match text {
-        "r" => Some(false),
-        "w" => Some(true),
-        _ => None,
-    }
-}
-
-// SIZE or SIZE:FILE.
-fn size_and_file(text: &str) -> (&str, Option<&str>) {
-    match text.split_once(':') {
-        Some((size, file)) => (size, Some(file)),
-        None => (text, None),
-    }
-}
-
-// A:r|w:SIZE[:FILE].
-fn section_in(text: &str) -> Option<SectionAsked<'_>> {
-    let (start, rest) = text.split_once(':')?;
-    let (rights, rest) = rest.split_once(':')?;
-    let (size, file) = size_and_file(rest);
-    match (number_in(start), number_in(size), rights_in(rights)) {
-        (Some(start), Some(size), Some(writable)) => Some(SectionAsked {
-            start,
-            size,
-            writable,
-            file,
-        }),
-        _ => None,
-    }
-}
-
-// Rn=X.
-fn register_in(text: &str) -> Option<(usize, u32)> {
-    let (number, value) = text.strip_prefix('R')?.split_once('=')?;
-    let number = number.parse::<u8>().ok()?;
-    Some((usize::from(number), number_in(value)?))
-}
-
-// Rn=X,..
-fn registers_in(text: &str) -> Option<[u32; FIRST_REGISTERS]> {
-    let mut registers = [0; FIRST_REGISTERS];
-    for register in text.split(',') {
-        let (number, value) = register_in(register)?;
-        if number >= FIRST_REGISTERS {
-            return None;
+impl<'a> Pieces<'a> {
+    fn of(value: &'a str) -> Pieces<'a> {
+        Pieces {
+            rest: Some(value),
+            is_bad: false,
         }
-        registers[number] = value;
     }
-    Some(registers)
+
+    // Whether the value writes nothing that its option takes.
+    fn are_bad(&self) -> bool {
+        self.is_bad || self.rest.is_some()
+    }
+
+    // What stands before the end, or all that is left where there is none.
+    fn piece(&mut self, end: char) -> &'a str {
+        let text = self.rest.unwrap_or("");
+        match text.split_once(end) {
+            Some((piece, rest)) => {
+                self.rest = Some(rest);
+                piece
+            }
+            None => {
+                self.rest = None;
+                text
+            }
+        }
+    }
+
+    fn number(&mut self) -> u32 {
+        match hexadecimal(self.piece(':').as_bytes()) {
+            Some(number) => number,
+            None => {
+                self.is_bad = true;
+                0
+            }
+        }
+    }
+
+    // Whether the section may be written: r or w.
+    fn rights(&mut self) -> bool {
+        match self.piece(':') {
+            "w" => true,
+            "r" => false,
+            _ => {
+                self.is_bad = true;
+                false
+            }
+        }
+    }
+
+    // A:r|w:SIZE[:FILE].
+    fn section(&mut self) -> SectionAsked<'a> {
+        SectionAsked {
+            start: self.number(),
+            writable: self.rights(),
+            size: self.number(),
+            file: self.rest.take(),
+        }
+    }
+
+    // Rn=X.
+    fn set_register(&mut self, registers: &mut [u32; FIRST_REGISTERS]) {
+        let number = register_number(self.piece('='));
+        let value = self.number();
+        match registers.get_mut(usize::from(number)) {
+            Some(register) => *register = value,
+            None => self.is_bad = true,
+        }
+    }
+
+    // [Rn=X,..].
+    fn registers(&mut self) -> [u32; FIRST_REGISTERS] {
+        let mut registers = [0; FIRST_REGISTERS];
+        if let Some(text) = self.rest.take() {
+            for one in text.split(',') {
+                let mut pieces = Pieces::of(one);
+                pieces.set_register(&mut registers);
+                self.is_bad |= pieces.are_bad();
+            }
+        }
+        registers
+    }
+
+    // PC:SP[:Rn=X,..].
+    fn thread(&mut self) -> Start {
+        Start {
+            pc: self.number(),
+            sp: self.number(),
+            first: self.registers(),
+        }
+    }
 }
 
-// SP or SP:Rn=X,..
-fn sp_and_registers(text: &str) -> (&str, Option<[u32; FIRST_REGISTERS]>) {
-    match text.split_once(':') {
-        Some((sp, registers)) => (sp, registers_in(registers)),
-        None => (text, Some([0; FIRST_REGISTERS])),
-    }
-}
-
-// PC:SP[:Rn=X,..].
-fn thread_in(text: &str) -> Option<Start> {
-    let (pc, rest) = text.split_once(':')?;
-    let (sp, first) = sp_and_registers(rest);
-    match (number_in(pc), number_in(sp), first) {
-        (Some(pc), Some(sp), Some(first)) => Some(Start { pc, sp, first }),
-        _ => None,
+// n of Rn, or a number that no register has.
+fn register_number(name: &str) -> u8 {
+    match name.strip_prefix('R') {
+        Some(digits) => digits.parse().unwrap_or(u8::MAX),
+        None => u8::MAX,
     }
 }
 
 /// What a value of an option writes.
-pub trait FromText<'a>: Sized + Drop {
-    /// What a value writes, if it writes something.
-    fn from_text(value: &'a str) -> Option<Self>;
+pub trait FromPieces<'a>: Sized + Drop {
+    fn taken(pieces: &mut Pieces<'a>) -> Self;
 }
 
-impl<'a> FromText<'a> for u32 {
-    fn from_text(value: &'a str) -> Option<u32> {
-        number_in(value)
+impl<'a> FromPieces<'a> for u32 {
+    fn taken(pieces: &mut Pieces<'a>) -> u32 {
+        pieces.number()
     }
 }
 
-impl<'a> FromText<'a> for SectionAsked<'a> {
-    fn from_text(value: &'a str) -> Option<SectionAsked<'a>> {
-        section_in(value)
+impl<'a> FromPieces<'a> for SectionAsked<'a> {
+    fn taken(pieces: &mut Pieces<'a>) -> SectionAsked<'a> {
+        pieces.section()
     }
 }
 
-impl<'a> FromText<'a> for Start {
-    fn from_text(value: &'a str) -> Option<Start> {
-        thread_in(value)
+impl<'a> FromPieces<'a> for Start {
+    fn taken(pieces: &mut Pieces<'a>) -> Start {
+        pieces.thread()
     }
 }
 
@@ -140,9 +172,10 @@ impl<'m, 'a> Values<'m, 'a> {
         }
     }
 
-    fn read<T: FromText<'a>>(&mut self, option: &'a str, value: &'a str) -> Option<T> {
-        let read = T::from_text(value);
-        if read.is_none() {
+    fn read<T: FromPieces<'a>>(&mut self, option: &'a str, value: &'a str) -> T {
+        let mut pieces = Pieces::of(value);
+        let read = T::taken(&mut pieces);
+        if pieces.are_bad() {
             self.note(ValueFault::Bad { option, value });
         }
         read
@@ -161,21 +194,20 @@ impl<'m, 'a> Values<'m, 'a> {
     /// The number of an option, where it is there.
     pub fn number_or(&mut self, option: &'a str, otherwise: u32) -> u32 {
         match self.text(option) {
-            Some(value) => self.read(option, value).unwrap_or(otherwise),
+            Some(value) => self.read(option, value),
             None => otherwise,
         }
     }
 
-    fn push<T: FromText<'a>>(&mut self, option: &'a str, value: &'a str, all: &mut Vec<T>) {
-        if let Some(item) = self.read(option, value) {
-            if all.push(item).is_err() {
-                self.note(ValueFault::WantOfMemory);
-            }
+    fn push<T: FromPieces<'a>>(&mut self, option: &'a str, value: &'a str, all: &mut Vec<T>) {
+        let item = self.read(option, value);
+        if all.push(item).is_err() {
+            self.note(ValueFault::WantOfMemory);
         }
     }
 
     /// What the values of an option write, which may stand again, or not at all.
-    pub fn all<T: FromText<'a>>(&mut self, option: &'a str) -> Vec<T> {
+    pub fn all<T: FromPieces<'a>>(&mut self, option: &'a str) -> Vec<T> {
         let mut all = Vec::new(self.alloc);
         for value in self.matches.get_strs(option).unwrap_or(&[]) {
             self.push(option, value, &mut all);
