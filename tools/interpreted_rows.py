@@ -19,7 +19,8 @@ BEGIN = "# What stands behind this line is written by tools/interpreted_rows.py,
 HEAD = BEGIN + """\
 # Architecture Reference Manual (addressing modes, instructions, exceptions), shares nothing with the crates, and leaves behind each of the VAX
 # simulator's cases what the simulator leaves. All is interpreted. A step is one reference, or the end of an instruction: a thread that is spent
-# stands where its last instruction ended, whatever was written since. Bytes that may be written stand from 1000 on, but where it is said.
+# stands where its last instruction ended, whatever was written since. Bytes that may be written stand from 1000 on, but where it is said. A
+# string or a call stands in a loop of two turns: budgets end in the first, where it is met anew, and histories in the second.
 
 """
 CODE, DATA, ROOM = 0x200, 0x1000, 0x1000
@@ -50,9 +51,19 @@ class Image:
         stored = " ".join(data.hex().upper() for _, data, _ in self.sections)
         return f"file x 5658494D 01000100 02000000 {''.join(words[:2])} {''.join(words[2:6])} {''.join(words[6:])} {stored}".rstrip()
 
-    def run(self, budget=None, events=None):
+    def thread(self, budget=None, events=None):
         sections = [(address, size, data, writable) for (address, data, writable), size in zip(self.sections, self.sizes())]
-        return Thread(self.start, self.sp, sections, budget, events).run()
+        return Thread(self.start, self.sp, sections, budget, events)
+
+    def run(self, budget=None, events=None):
+        return self.thread(budget, events).run()
+
+    def first_turn(self):
+        """How many steps and references the first turn of its loop makes, which R11 counts."""
+        t = self.thread()
+        while not t.r[11]:
+            t.turn()
+        return t.steps, t.entries
 
     def rows(self, said):
         text = f"{said}: {'; '.join(self.lines)}" if said else "; ".join(self.lines)
@@ -83,16 +94,16 @@ def call(t, options=""):
     return f"call run x {ALL}{options}: {ending(t)}"
 
 
-def budgets(image, first=0):
-    """A row for each number of steps behind the first ones, up to all that there are."""
-    steps = image.run().steps
-    return [call(image.run(budget=count), f" --budget {count}") for count in range(first + 1, steps + 1)]
+def budgets(image, first=0, last=None):
+    """A row for each number of steps behind the first ones, up to the last one, or to all that there are."""
+    last = last or image.run().steps
+    return [call(image.run(budget=count), f" --budget {count}") for count in range(first + 1, last + 1)]
 
 
-def histories(image, area=None):
-    """A row for each length of the history up to its own, and what stands in an area then."""
+def histories(image, first=0, area=None):
+    """A row for each length of the history behind the first entries, up to all that there are, and what stands in an area then."""
     rows = []
-    for count in range(image.run().entries + 1):
+    for count in range(first, image.run().entries + 1):
         t = image.run(events=count)
         rows += [call(t, f" --events {count}"), *([f"memory {area[0]:X} {bytes_at(t, *area)}"] if area else [])]
     return rows
@@ -100,11 +111,12 @@ def histories(image, area=None):
 
 # ---- Ends at each step
 
-BEFORE = ["MOVL #11,R0", "MOVL #12,R2", "MOVL #14,R4", "MOVL #15,R5", "CMPL #1,#2"]
+BEFORE = ["loop: MOVL #11,R0", "MOVL #12,R2", "MOVL #14,R4", "MOVL #15,R5", "CMPL #1,#2"]
+BEHIND = ["AOBLSS #2,R11,loop", "CHMK #1"]
 STRINGS = {
-    "MOVC3 #3,@#1000,@#1006": "414243",
+    "MOVC3 #3,@#1000,(R6)+": "414243",
     "MOVC3 #3,@#1006,@#1007": "0000000000004142434445",
-    "MOVC5 #2,@#1000,#2A,#4,@#1006": "4142",
+    "MOVC5 #2,@#1000,#2A,#4,(R6)+": "4142",
     "CMPC3 #3,@#1000,@#1006": "4142434445464142442A",
     "LOCC #2A,#3,@#1000": "41422A",
     "SKPC #20,#3,@#1000": "202041",
@@ -114,19 +126,22 @@ STRINGS = {
 def strings():
     rows = ["family strings that end at each step"]
     for text, data in STRINGS.items():
-        image = Image([*BEFORE, text, "CHMK #1"], data)
-        area = (DATA, 12) if text.startswith("MOVC") else None
-        rows += [*image.rows(""), *budgets(image, len(BEFORE)), *histories(image, area)]
+        image = Image(["MOVAB @#1006,R6", *BEFORE, text, *BEHIND], data)
+        steps, entries = image.first_turn()
+        rows += [*image.rows("twice"), *budgets(image, 1 + len(BEFORE), steps)]
+        rows += histories(image, entries, (DATA, 12) if text.startswith("MOVC") else None)
     return rows
 
 
 def calls():
     rows = ["", "family calls that end at each step"]
-    first = ["MOVL #2,R2", "MOVL #3,R3"]
-    by_stack = Image([*first, "PUSHL #7", "CALLS #1,@#p", "CHMK #1", "p: .word 000C", "MOVL (AP),R0", "CLRL R2", "RET"], sp=DATA + 0x40)
-    by_list = Image([*first, "BISPSW #40", "CMPL #1,#2", "CALLG @#1080,@#p", "CHMK #1", "p: .word 800C", "CLRL R3", "RET"], sp=DATA + 0x3E)
-    rows += [*by_stack.rows(""), *budgets(by_stack, 2), *histories(by_stack, (DATA + 0x18, 0x28))]
-    rows += [*by_list.rows("the stack at 103E"), *budgets(by_list, 4), *histories(by_list, (DATA + 0x18, 0x28))]
+    first, area = ["loop: SUBL2 #4,SP", "MOVL #2,R2", "MOVL #3,R3"], (DATA + 0x10, 0x30)
+    by_stack = [*first, "PUSHL #7", "CALLS #1,@#p", *BEHIND, "p: .word 000C", "MOVL (AP),R0", "CLRL R2", "RET"]
+    by_list = [*first, "BISPSW #40", "CMPL #1,#2", "CALLG @#1080,@#p", *BEHIND, "p: .word 800C", "CLRL R3", "RET"]
+    for lines, sp, done in ((by_stack, DATA + 0x40, 3), (by_list, DATA + 0x42, 5)):
+        image = Image(lines, sp=sp)
+        steps, entries = image.first_turn()
+        rows += [*image.rows(f"twice, the stack at {sp:X}"), *budgets(image, done, steps), *histories(image, entries, area)]
     return rows
 
 
@@ -310,8 +325,8 @@ def procedures(body):
         procedure, behind = body.label("p"), body.label("e")
         pushed = ["PUSHL #7", "PUSHL #8"] if name.startswith("CALLS #") else []
         body.add("MOVQ 8(R6),R2", f"MOVAB @#{procedure},R1", *(["MOVL #1010,R6"] if "+" in name else []), *pushed, "CMPL #1,#2",
-                 name.format(procedure), f"BRB {behind}", f"{procedure}: .word 400C", "MOVPSL (R10)+", "MOVL AP,(R10)+", "MOVL (AP),(R10)+", "CLRQ R2", "RET",
-                 f"{behind}: MOVPSL (R10)+", "MOVQ R2,(R10)+", "MOVL SP,(R10)+", "MOVAB @#1000,R6", f"MOVAB @#{DATA + ROOM:X},SP")
+                 name.format(procedure), f"BRB {behind}", f"{procedure}: .word 400C", "MOVPSL (R10)+", "MOVL AP,(R10)+", "MOVL (AP),(R10)+",
+                 "CLRQ R2", "RET", f"{behind}: MOVPSL (R10)+", "MOVQ R2,(R10)+", "MOVL SP,(R10)+", "MOVAB @#1000,R6", f"MOVAB @#{DATA + ROOM:X},SP")
 
 
 def lists(body):

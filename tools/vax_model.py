@@ -291,7 +291,8 @@ class Thread:
                 away = signed(self.fetch(size), size)
                 found.append(Operand(size, (self.pc + away) % SPACE))
             else:
-                found.append((kind[0], size, self.decoded(size)))
+                access = "w" if name == "ADAWI" and kind[0] == "m" else kind[0]
+                found.append((access, size, self.decoded(size)))
         operands = [each if isinstance(each, Operand) else self.operand(*each) for each in found]
         body = next(body for pattern, body in BODIES if re.fullmatch(pattern, name))
         body(self, name, operands)
@@ -372,7 +373,7 @@ def sums(t, name, ops):
 
 
 def adds_interlocked(t, name, ops):
-    """One reference reads and writes."""
+    """One reference reads and writes, behind all specifiers."""
     if ops[1].register is None:
         if ops[1].address % 2:
             raise Fault(RESERVED_OPERAND)
