@@ -58,6 +58,14 @@ class Image:
     def run(self, budget=None, events=None):
         return self.thread(budget, events).run()
 
+    def starts(self):
+        """Where its instructions begin that are made."""
+        t, found = self.thread(), set()
+        while t.end is None:
+            found.add(t.pc)
+            t.turn()
+        return found
+
     def first_turn(self):
         """How many steps and references the first turn of its loop makes, which R11 counts."""
         t = self.thread()
@@ -178,10 +186,24 @@ def jumps():
     rows += [*warm.rows(f"behind {TURNS} turns of the whole"), *budgets(warm, 3 + 2 * TURNS - 2)]
     outside = Image(["MOVAB @#1000,R1", f"MOVZWL #{TURNS:X},R6", "loop: SOBGTR R6,loop", "JMP (R1)"], "D650BC01")
     rows += [*outside.rows("to INCL R0; CHMK #1 in a page that may be written"), *budgets(outside, 2 + TURNS)]
-    padding = ["CHMK #1", ".byte " + "01" * (0x400 - 0xB)]
-    places = Image(["begin: INCL R3", "BRW far", "near: AOBLSS #2,R4,begin", *padding, "far: INCL R5", "BRW near"])
-    text = "INCL R3; BRW 600; AOBLSS #2,R4,200; CHMK #1; at 600, where the same low bits are, INCL R5; BRW 205"
-    return rows + [f"# {text}", places.file(), *budgets(places)]
+    return rows + places()
+
+
+def places():
+    """Instructions 400 apart, where the low bits of their addresses are the same: a row for each end of an instruction."""
+    low = ["BRB begin", "p: .word 0", "RET", "begin: CALLS #0,@#p", "INCL R3", "LOCC #41,#3,@#1000", "MOVL @#1000,R7", "BRW far",
+           "near: AOBLSS #2,R4,begin", "CHMK #1"]
+    padding = ".byte " + "01" * (0x404 - len(assembled(low, CODE)[0]))
+    high = ["far: INCL @#1008", "NOP", "NOP", "INCL R5", "SKPC #42,#3,@#1002", "MOVL @#1004,R8", "BRW near"]
+    image = Image([*low, padding, *high], "2041424344454647")
+    at = {place for place in image.starts() if place ^ 0x400 in image.starts()}
+    assert len(at) == 10, at
+    t, rows = image.thread(), []
+    while t.end is None:
+        t.turn()
+        rows.append(call(image.run(budget=t.steps), f" --budget {t.steps}"))
+    said = f"# {'; '.join(low)}; at 604, where the same low bits are, {'; '.join(high)}"
+    return [*textwrap.wrap(said, WIDTH, subsequent_indent="# "), image.file(), *rows]
 
 
 # ---- Each kind, known and unknown
