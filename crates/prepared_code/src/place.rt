@@ -1,5 +1,5 @@
-// Places from which a function is called. One that is generic in its place stands there once, so that the compiler can put it
-// there, however large it is.
+// Places from which a function is called, its parameter L. One that is generic in its place has one caller for each, so that the
+// compiler can put it there, however large it is.
 
 /// Where steps are made inside one block.
 pub struct Stepping;

@@ -16,8 +16,8 @@ abbrev pub row_behind : Code → Cpu → (before : ℕ) → ℕ
 row_behind code cpu before = if guess code cpu.pc == 0 then 0 else before + 1
 
 -- ---- one round
--- it goes through a block, as the words tell; else it makes all steps inside one, and the probe behind them. It tells how many steps, at how many landings in a row something is guessed then, and whether it made
--- no more because there are none
+-- It goes through a block, as the words tell; else it makes all steps inside one, and the probe behind them. It tells how
+-- many steps, at how many landings in a row something is guessed then, and whether it made no more because there are none.
 pub data IsKept (source : Source) (most row : ℕ) (old : Cpu) : Cpu → ℕ × ℕ × Bool → Type 0 where
   Lands : {new : Cpu} {steps : ℕ} → arrives source.code (state_of old) most ≡ true → Crosses source.code old new steps → IsKept source most row old new (steps, row_behind source.code new row, false)
   Spends : {new : Cpu} {steps : ℕ} → arrives source.code (state_of old) most ≡ false → Rests source.code old new most steps → steps ≡ most → IsKept source most row old new (steps, row, false)
