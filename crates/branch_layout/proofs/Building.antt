@@ -49,12 +49,13 @@ pushed_last (y ∷ xs) x = pushed_last xs x
 pub ends_next : (small : Bool) (mapped : List Pair) (blocks : List Placed) (i : ℕ) (b : Placed) (ends ends' : List (Option End)) (end : Option End) → slice_get blocks i ≡ Some b → ends' ≡ ends ++ end ∷ []
     → end ≡ end_of small mapped (next_address (drop (i + 1) blocks)) b.1 → AreEnds small mapped blocks i ends → AreEnds small mapped blocks (i + 1) ends'
 ends_next small mapped blocks i b ends ends' end at is ends_so before = subst (AreEnds small mapped blocks (i + 1)) (sym is) (record {
-      counted = length-append ends (end ∷ []) ∙ ap (λ n. n + 1) before.counted;
-      each = λ k c lt e. elim (eq-or-lt_of_le (within k lt)) [ inl same ↦ last k c same e | inr less ↦ pushed_front ends end k (rw before.counted less) ∙ before.each k c less e ];
-    })
+  counted = length-append ends (end ∷ []) ∙ ap (λ n. n + 1) before.counted;
+  each = λ k c lt e. elim (eq-or-lt_of_le (within k lt)) [ inl same ↦ last k c same e | inr less ↦ pushed_front ends end k (rw before.counted less) ∙ before.each k c less e ];
+})
   where
     within : (k : ℕ) → k < i + 1 → k ≤ i
     within k lt = omega arith
+
     last : (k : ℕ) (c : Placed) → k ≡ i → slice_get blocks k ≡ Some c → slice_get (ends ++ end ∷ []) k ≡ Some (end_of small mapped (next_address (drop (k + 1) blocks)) c.1)
     last k c same e =
         let is_b : b ≡ c = some_same (sym at ∙ ap (slice_get blocks) (sym same) ∙ e) in
